@@ -10,7 +10,7 @@ use Rattle.definition.specs.Answer.{Answer, got, refused, _>>=_}
 use Rattle.definition.specs.Refusal.{missingMark, missingName, memberStorage, badWidth}
 use Rattle.definition.specs.Kind.{isName, end, openBrace, closeBrace, semicolon, colon, comma}
 use Rattle.definition.specs.Name.{noName}
-use Rattle.definition.specs.Token.{Tokens, kindAt, numberAt, here, left}
+use Rattle.definition.specs.Token.{Tokens, kindAt, numberAt, left}
 use Rattle.definition.specs.Model.{Model}
 use Rattle.definition.specs.RowKind.{structKind, unionKind}
 use Rattle.definition.specs.Row.{Row, composite, Span, nothing, spanOf}
@@ -65,17 +65,17 @@ abbrev pub membersOwned : ℕ → ℕ → State → State
 membersOwned first n s = withTable s (withMembers (s .table) (ownMembers first n (s .table .members)))
 
 -- a body without a tag: an equal row, and then its entries carry row 0, or a new one
-unfoldable pub addBody : Tokens → Bool → Body → Reads ℕ
-addBody ts union b s = let r = composite union noName (some (b .size)) (b .fields) in
+unfoldable pub addBody : Bool → Body → Reads ℕ
+addBody union b s = let r = composite union noName (some (b .size)) (b .fields) in
   elim (equalRow (s .table) r 0 (s .table .rows)) [
       some n ↦ got (n, membersOwned (b .fields .first) 0 s)
     | none ↦ (do
-        n ← pushRow ts r s
+        n ← pushRow r s
         got (n .0, membersOwned (b .fields .first) (n .0) (n .1))) ]
 
 -- the row of a tag: the one that it has, or a new one without a body
-unfoldable pub tagRow : Tokens → Bool → ℕ → Reads ℕ
-tagRow ts union w s = elim (compositeRow union (s .table) w) [ some n ↦ got (n, s) | none ↦ pushRow ts (composite union w none nothing) s ]
+unfoldable pub tagRow : Bool → ℕ → Reads ℕ
+tagRow union w s = elim (compositeRow union (s .table) w) [ some n ↦ got (n, s) | none ↦ pushRow (composite union w none nothing) s ]
 
 -- ---- reading members
 
@@ -111,22 +111,22 @@ module _ (ts : Tokens) (m : Model) (next : Levels) where
   unfoldable pub memberDeclarator : ℕ → ℕ → State → Answer State
   memberDeclarator first b s = elim (stands ts colon s) [
       true ↦ (do
-        w ← bitWidth (here ts (s .at)) s
-        e ← pushMember ts (fresh first b noName (w .0) (here ts (s .at))) (w .1)
+        w ← bitWidth (s .at) s
+        e ← pushMember (fresh first b noName (w .0) (s .at)) (w .1)
         got (e .1))
     | false ↦ (do
         d ← next .declarator 0 s
-        r ← apply ts (d .0 .steps) b (d .1)
-        w ← bitWidth (here ts (s .at)) (r .1)
+        r ← apply (d .0 .steps) b (d .1)
+        w ← bitWidth (s .at) (r .1)
         elim (eqb (d .0 .name) noName) [
-            true ↦ refused missingName (here ts (s .at))
+            true ↦ refused missingName (s .at)
           | false ↦ (do
-              e ← pushMember ts (fresh first (r .0) (d .0 .name) (w .0) (here ts (s .at))) (w .1)
+              e ← pushMember (fresh first (r .0) (d .0 .name) (w .0) (s .at)) (w .1)
               got (e .1)) ]) ]
 
   -- the declarators of one member declaration; each round reads one
   unfoldable pub memberDeclarators : ℕ → ℕ → ℕ → State → Answer State
-  memberDeclarators zero first b s = refused missingMark (here ts (s .at))
+  memberDeclarators zero first b s = refused missingMark (s .at)
   memberDeclarators (suc f) first b s = do
     s₁ ← memberDeclarator first b s
     elim (stands ts comma s₁) [ true ↦ memberDeclarators f first b (skip s₁) | false ↦ needed ts semicolon s₁ ]
@@ -136,7 +136,7 @@ module _ (ts : Tokens) (m : Model) (next : Levels) where
   anonymousMember first b at s = elim (isComposite (resolvedKind (s .table) b)) [
       false ↦ refused missingName at
     | true ↦ (do
-        e ← pushMember ts (fresh first b noName none at) s
+        e ← pushMember (fresh first b noName none at) s
         got (e .1)) ]
 
   -- one member declaration; "storage class on a member" is refused
@@ -144,19 +144,19 @@ module _ (ts : Tokens) (m : Model) (next : Levels) where
   memberDeclaration first s = do
     p ← specifiers ts m next s
     elim (eqb (storageNumber (p .0 .storage)) (storageNumber noStorage)) [
-        false ↦ refused memberStorage (here ts (s .at))
+        false ↦ refused memberStorage (s .at)
       | true ↦ (do
-          b ← baseType ts m (p .0) (here ts (s .at)) (p .1)
+          b ← baseType m (p .0) (s .at) (p .1)
           elim (stands ts semicolon (b .1)) [
-              true ↦ anonymousMember first (b .0) (here ts (s .at)) (skip (b .1))
+              true ↦ anonymousMember first (b .0) (s .at) (skip (b .1))
             | false ↦ memberDeclarators (suc (left ts (s .at))) first (b .0) (b .1) ]) ]
 
   -- members up to the closing brace; each round reads a semicolon or a member declaration
   unfoldable pub membersFrom : ℕ → ℕ → State → Answer State
-  membersFrom zero first s = refused missingMark (here ts (s .at))
+  membersFrom zero first s = refused missingMark (s .at)
   membersFrom (suc f) first s =
     elim (stands ts closeBrace s) [ true ↦ got (skip s) | false ↦
-    elim (stands ts end s) [ true ↦ refused missingMark (here ts (s .at)) | false ↦
+    elim (stands ts end s) [ true ↦ refused missingMark (s .at) | false ↦
     elim (stands ts semicolon s) [ true ↦ membersFrom f first (skip s) | false ↦ (do
       s₁ ← memberDeclaration first s
       membersFrom f first s₁) ] ] ]
@@ -172,7 +172,7 @@ module _ (ts : Tokens) (m : Model) (next : Levels) where
   -- a tag is known before its body is read, so that the body can name it
   unfoldable pub taggedComposite : Bool → ℕ → ℕ → Reads ℕ
   taggedComposite union w at s = do
-    r ← tagRow ts union w s
+    r ← tagRow union w s
     elim (stands ts openBrace (r .1)) [
         false ↦ got r
       | true ↦ (do
@@ -184,10 +184,10 @@ module _ (ts : Tokens) (m : Model) (next : Levels) where
       false ↦ refused missingName at
     | true ↦ (do
         b ← body union at (skip s)
-        addBody ts union (b .0) (b .1)) ]
+        addBody union (b .0) (b .1)) ]
 
   -- after `struct` or `union`
   unfoldable pub composite₁ : Bool → Reads ℕ
   composite₁ union s = elim (isName (kindAt ts (s .at))) [
-      true ↦ taggedComposite union (numberAt ts (s .at)) (here ts (s .at)) (skip s)
-    | false ↦ untaggedComposite union (here ts (s .at)) s ]
+      true ↦ taggedComposite union (numberAt ts (s .at)) (s .at) (skip s)
+    | false ↦ untaggedComposite union (s .at) s ]

@@ -7,7 +7,7 @@ use lib.IntN.{ℤ, pos}
 use Rattle.definition.specs.Answer.{Answer, got, refused, _>>=_}
 use Rattle.definition.specs.Refusal.{tooDeep, noConstant}
 use Rattle.definition.specs.Kind.{number, isName, openParen, closeParen, question, colon}
-use Rattle.definition.specs.Token.{Tokens, kindAt, numberAt, here, left, need}
+use Rattle.definition.specs.Token.{Tokens, kindAt, numberAt, left, need}
 use Rattle.definition.specs.Range.{ranged, exact}
 use Rattle.definition.specs.Arithmetic.{precedence, noPrecedence, operator, isPrefix, prefixed, chosen}
 
@@ -28,14 +28,14 @@ module _ (ts : Tokens) (known : ℕ → Option ℤ) (next : Readers) where
   primary at =
       elim (eqb (kindAt ts at) number) [
         | true ↦ (do
-          v ← ranged (here ts at) (pos (numberAt ts at))
+          v ← ranged at (pos (numberAt ts at))
           got (v, at + 1))
         | false ↦
             elim (isName (kindAt ts at)) [
               | true ↦
-                  elim (known (numberAt ts at)) [ some v ↦ got (v, at + 1) | none ↦ refused noConstant (here ts at) ]
+                  elim (known (numberAt ts at)) [ some v ↦ got (v, at + 1) | none ↦ refused noConstant at ]
               | false ↦
-                  refused noConstant (here ts at)
+                  refused noConstant at
             ]
       ]
 
@@ -45,7 +45,7 @@ module _ (ts : Tokens) (known : ℕ → Option ℤ) (next : Readers) where
       elim (isPrefix (kindAt ts at)) [
         | true ↦ (do
           r ← next .operand (at + 1)
-          v ← ranged (here ts at) (prefixed (kindAt ts at) (r .0))
+          v ← ranged at (prefixed (kindAt ts at) (r .0))
           got (v, r .1))
         | false ↦
             elim (eqb (kindAt ts at) openParen) [
@@ -66,7 +66,7 @@ module _ (ts : Tokens) (known : ℕ → Option ℤ) (next : Readers) where
         | false ↦ got (x, at)
         | true ↦ (do
           r ← next .chain (precedence (kindAt ts at)) (at + 1)
-          v ← exact (operator (kindAt ts at) x (r .0)) (here ts at)
+          v ← exact (operator (kindAt ts at) x (r .0)) at
           operatorsFrom rounds low v (r .1))
       ]
 
@@ -91,9 +91,9 @@ module _ (ts : Tokens) (known : ℕ → Option ℤ) (next : Readers) where
 -- the readers with a number of levels left: with none, "depth above 64"
 unfoldable pub level : Tokens → (ℕ → Option ℤ) → ℕ → Readers
 level ts known zero = record {
-  condition = λ at. refused tooDeep (here ts at);
-  chain = λ low at. refused tooDeep (here ts at);
-  operand = λ at. refused tooDeep (here ts at);
+  condition = λ at. refused tooDeep at;
+  chain = λ low at. refused tooDeep at;
+  operand = λ at. refused tooDeep at;
 }
 level ts known (suc room) = let next = level ts known room in record {
   condition = condition₁ ts known next;

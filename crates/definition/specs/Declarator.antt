@@ -11,7 +11,7 @@ use Rattle.definition.specs.Refusal.{impossibleType, badBound, limitPass
 use Rattle.definition.specs.Limit.{maxSteps}
 use Rattle.definition.specs.Kind.{isName, atomicWord, staticWord, star, openParen, closeParen, openBracket, closeBracket, comma, ellipsis}
 use Rattle.definition.specs.Name.{noName}
-use Rattle.definition.specs.Token.{Tokens, kindAt, numberAt, here, left}
+use Rattle.definition.specs.Token.{Tokens, kindAt, numberAt, left}
 use Rattle.definition.specs.Model.{Model}
 use Rattle.definition.specs.RowKind.{voidKind, arrayKind, functionKind}
 use Rattle.definition.specs.Row.{Row, pointer, array, function, Qualifiers, unqualified, Span, targetOf, isSome}
@@ -31,11 +31,11 @@ abbrev pub parametersOwned : ℕ → ℕ → State → State
 parametersOwned first n s = withTable s (withParameters (s .table) (ownParameters first n (s .table .parameters)))
 
 -- a function type: an equal row, and then its list carries row 0, or a new one
-unfoldable pub addFunction : Tokens → Option ℕ → Bool → Span → Reads ℕ
-addFunction ts returns varargs e s = elim (equalRow (s .table) (function returns varargs e) 0 (s .table .rows)) [
+unfoldable pub addFunction : Option ℕ → Bool → Span → Reads ℕ
+addFunction returns varargs e s = elim (equalRow (s .table) (function returns varargs e) 0 (s .table .rows)) [
     some n ↦ got (n, parametersOwned (e .first) 0 s)
   | none ↦ (do
-      r ← pushRow ts (function returns varargs e) s
+      r ← pushRow (function returns varargs e) s
       got (r .0, parametersOwned (e .first) (r .0) (r .1))) ]
 
 -- a function of void returns nothing
@@ -43,29 +43,29 @@ abbrev pub returned : Table → ℕ → Option ℕ
 returned t b = elim (eqb (resolve t b) 0) [ true ↦ none | false ↦ some b ]
 
 -- Each step is taken in turn. "array of void, function returning array or function" is refused at the token not yet read.
-unfoldable pub apply : Tokens → List DeclaratorStep → ℕ → Reads ℕ
-apply ts [] b s = got (b, s)
-apply ts (pointerStep q ∷ xs) b s = do
-  p ← add ts (pointer b) s
-  r ← qualify ts q (p .0) (p .1)
-  apply ts xs (r .0) (r .1)
-apply ts (arrayStep n ∷ xs) b s = elim (eqb (resolvedKind (s .table) b) voidKind) [
-    true ↦ refused impossibleType (here ts (s .at))
+unfoldable pub apply : List DeclaratorStep → ℕ → Reads ℕ
+apply [] b s = got (b, s)
+apply (pointerStep q ∷ xs) b s = do
+  p ← add (pointer b) s
+  r ← qualify q (p .0) (p .1)
+  apply xs (r .0) (r .1)
+apply (arrayStep n ∷ xs) b s = elim (eqb (resolvedKind (s .table) b) voidKind) [
+    true ↦ refused impossibleType (s .at)
   | false ↦ (do
-      r ← add ts (array b n) s
-      apply ts xs (r .0) (r .1)) ]
-apply ts (functionStep v e ∷ xs) b s =
+      r ← add (array b n) s
+      apply xs (r .0) (r .1)) ]
+apply (functionStep v e ∷ xs) b s =
   elim (eqb (resolvedKind (s .table) b) arrayKind || eqb (resolvedKind (s .table) b) functionKind) [
-    true ↦ refused impossibleType (here ts (s .at))
+    true ↦ refused impossibleType (s .at)
   | false ↦ (do
-      r ← addFunction ts (returned (s .table) b) v e s
-      apply ts xs (r .0) (r .1)) ]
+      r ← addFunction (returned (s .table) b) v e s
+      apply xs (r .0) (r .1)) ]
 
 -- "A parameter declared as an array or a function is a pointer" (C11 6.7.6.3); a void one is refused
-unfoldable pub adjusted : Tokens → ℕ → ℕ → Reads ℕ
-adjusted ts at b s =
-  elim (eqb (resolvedKind (s .table) b) arrayKind) [ true ↦ add ts (pointer (targetOf (rowAt (s .table) (resolve (s .table) b)))) s | false ↦
-  elim (eqb (resolvedKind (s .table) b) functionKind) [ true ↦ add ts (pointer b) s | false ↦
+unfoldable pub adjusted : ℕ → ℕ → Reads ℕ
+adjusted at b s =
+  elim (eqb (resolvedKind (s .table) b) arrayKind) [ true ↦ add (pointer (targetOf (rowAt (s .table) (resolve (s .table) b)))) s | false ↦
+  elim (eqb (resolvedKind (s .table) b) functionKind) [ true ↦ add (pointer b) s | false ↦
   elim (eqb (resolvedKind (s .table) b) voidKind) [ true ↦ refused impossibleType at | false ↦ got (b, s) ] ] ]
 
 -- ---- reading a declarator
@@ -81,8 +81,8 @@ abbrev pub qualifiersHere : Tokens → State → Qualifiers × State
 qualifiersHere ts s = qualifiersFrom ts (suc (left ts (s .at))) unqualified s
 
 -- room for one more step after n: 27 "at the next token not yet read"
-unfoldable pub oneMoreStep : Tokens → ℕ → State → Answer State
-oneMoreStep ts n s = elim (leb maxSteps n) [ true ↦ refused limitPassed (here ts (s .at)) | false ↦ got s ]
+unfoldable pub oneMoreStep : ℕ → State → Answer State
+oneMoreStep n s = elim (leb maxSteps n) [ true ↦ refused limitPassed (s .at) | false ↦ got s ]
 
 -- the stars, newest first, after `used` steps
 unfoldable pub starsFrom : Tokens → ℕ → ℕ → List Qualifiers → Reads (List Qualifiers)
@@ -90,7 +90,7 @@ starsFrom ts zero used qs s = got (qs, s)
 starsFrom ts (suc f) used qs s = elim (stands ts star s) [
     false ↦ got (qs, s)
   | true ↦ (do
-      s₁ ← oneMoreStep ts (used + length qs) (skip s)
+      s₁ ← oneMoreStep (used + length qs) (skip s)
       starsFrom ts f used (qualifiersHere ts s₁ .0 ∷ qs) (qualifiersHere ts s₁ .1)) ]
 
 -- the steps of stars, the newest of which comes next to those already there
@@ -129,7 +129,7 @@ module _ (ts : Tokens) (m : Model) (next : Levels) where
   constantBound s = do
     v ← next .constant s
     s′ ← needed ts closeBracket (v .1)
-    n ← boundOf (v .0) (here ts (s .at))
+    n ← boundOf (v .0) (s .at)
     got (some n, s′)
 
   unfoldable pub arrayBound : State → Answer (Option ℕ × State)
@@ -138,16 +138,16 @@ module _ (ts : Tokens) (m : Model) (next : Levels) where
     elim (stands ts star s) [
         true ↦ (do
           s′ ← needed ts closeBracket (skip s)
-          refused badBound (here ts (s .at)))
+          refused badBound (s .at))
       | false ↦ constantBound s ] ]
 
   -- one parameter: its type, its name
   unfoldable pub parameter : State → Answer (ℕ × ℕ × State)
   parameter s = do
     p ← specifiers ts m next s
-    b ← baseType ts m (p .0) (here ts (s .at)) (p .1)
+    b ← baseType m (p .0) (s .at) (p .1)
     d ← next .declarator 0 (b .1)
-    r ← apply ts (d .0 .steps) (b .0) (d .1)
+    r ← apply (d .0 .steps) (b .0) (d .1)
     got (r .0, d .0 .name, r .1)
 
   unfoldable pub parametersEnd : Bool → ℕ → ℕ → Reads DeclaratorStep
@@ -165,8 +165,8 @@ module _ (ts : Tokens) (m : Model) (next : Levels) where
         elim (isVoidList ts n (p .1) (p .0) (p .2)) [
             true ↦ parametersEnd false first n (p .2)
           | false ↦ (do
-              a ← adjusted ts (here ts (s .at)) (p .0) (p .2)
-              e ← pushParameter ts (record { row = markOf first; type = a .0; name = p .1 }) (a .1)
+              a ← adjusted (s .at) (p .0) (p .2)
+              e ← pushParameter (record { row = markOf first; type = a .0; name = p .1 }) (a .1)
               elim (stands ts comma (e .1)) [
                   true ↦ parametersFrom f first (suc n) (skip (e .1))
                 | false ↦ parametersEnd false first (suc n) (e .1) ]) ]) ]
@@ -182,11 +182,11 @@ module _ (ts : Tokens) (m : Model) (next : Levels) where
   suffixesFrom zero used d s = got (d, s)
   suffixesFrom (suc f) used d s =
     elim (stands ts openBracket s) [ true ↦ (do
-        s₁ ← oneMoreStep ts (used + length (d .steps)) (skip s)
+        s₁ ← oneMoreStep (used + length (d .steps)) (skip s)
         b ← arrayBound s₁
         suffixesFrom f used (withStep d (arrayStep (b .0))) (b .1)) | false ↦
     elim (stands ts openParen s) [ true ↦ (do
-        s₁ ← oneMoreStep ts (used + length (d .steps)) (skip s)
+        s₁ ← oneMoreStep (used + length (d .steps)) (skip s)
         p ← parameters s₁
         suffixesFrom f used (withStep d (p .0)) (p .1)) | false ↦
     got (d, s) ] ]

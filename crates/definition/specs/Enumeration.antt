@@ -11,7 +11,7 @@ use Rattle.definition.specs.Answer.{Answer, got, refused, _>>=_}
 use Rattle.definition.specs.Refusal.{missingMark, missingName, fixedEnum}
 use Rattle.definition.specs.Kind.{isName, openBrace, closeBrace, colon, comma, equals}
 use Rattle.definition.specs.Name.{noName}
-use Rattle.definition.specs.Token.{Tokens, kindAt, numberAt, here, left}
+use Rattle.definition.specs.Token.{Tokens, kindAt, numberAt, left}
 use Rattle.definition.specs.Range.{ranged}
 use Rattle.definition.specs.Model.{Model}
 use Rattle.definition.specs.Row.{Row, enumeration, Span, nothing, spanOf}
@@ -51,8 +51,8 @@ abbrev pub valuesSince : ℕ → Table → Span
 valuesSince first t = record { first = first; count = length (t .values) - first }
 
 -- the row of a tag: the one that it has, or a new one without values
-unfoldable pub enumTagRow : Tokens → ℕ → ℕ → Reads ℕ
-enumTagRow ts bytes w s = elim (enumRow (s .table) w) [ some n ↦ got (n, s) | none ↦ pushRow ts (enumeration w bytes nothing) s ]
+unfoldable pub enumTagRow : ℕ → ℕ → Reads ℕ
+enumTagRow bytes w s = elim (enumRow (s .table) w) [ some n ↦ got (n, s) | none ↦ pushRow (enumeration w bytes nothing) s ]
 
 -- the body of tag w, whose row is n
 unfoldable pub defineEnum : ℕ → ℕ → ℕ → Span → State → State
@@ -64,26 +64,26 @@ abbrev pub valuesOwned : ℕ → ℕ → State → State
 valuesOwned first n s = withTable s (withValues (s .table) (ownValues first n (s .table .values)))
 
 -- a body without a tag: an equal row, and then its values carry row 0, or a new one
-unfoldable pub addEnum : Tokens → ℕ → Span → Reads ℕ
-addEnum ts bytes e s = elim (equalRow (s .table) (enumeration noName bytes e) 0 (s .table .rows)) [
+unfoldable pub addEnum : ℕ → Span → Reads ℕ
+addEnum bytes e s = elim (equalRow (s .table) (enumeration noName bytes e) 0 (s .table .rows)) [
     some n ↦ got (n, valuesOwned (e .first) 0 s)
   | none ↦ (do
-      r ← pushRow ts (enumeration noName bytes e) s
+      r ← pushRow (enumeration noName bytes e) s
       got (r .0, valuesOwned (e .first) (r .0) (r .1))) ]
 
 -- `enum` and a tag without braces, noted for the conditions of demand 3; `enum` alone is refused
-unfoldable pub bareEnum : Tokens → Model → ℕ → ℕ → Reads ℕ
-bareEnum ts m w at s = elim (eqb w noName) [
+unfoldable pub bareEnum : Model → ℕ → ℕ → Reads ℕ
+bareEnum m w at s = elim (eqb w noName) [
     true ↦ refused missingName at
   | false ↦ (do
-      r ← enumTagRow ts (m .enumSize) w s
+      r ← enumTagRow (m .enumSize) w s
       got (r .0, withTable (r .1) (logged (r .1 .table) (used w)))) ]
 
-unfoldable pub closeEnum : Tokens → ℕ → ℕ → Span → Reads ℕ
-closeEnum ts w bytes e s = elim (eqb w noName) [
-    true ↦ addEnum ts bytes e s
+unfoldable pub closeEnum : ℕ → ℕ → Span → Reads ℕ
+closeEnum w bytes e s = elim (eqb w noName) [
+    true ↦ addEnum bytes e s
   | false ↦ (do
-      r ← enumTagRow ts bytes w s
+      r ← enumTagRow bytes w s
       got (r .0, defineEnum w (r .0) bytes e (r .1))) ]
 
 module _ (ts : Tokens) (m : Model) (next : Levels) where
@@ -95,16 +95,16 @@ module _ (ts : Tokens) (m : Model) (next : Levels) where
   -- one enumerator, at a name: its value, which must be in range
   unfoldable pub enumerator : ℕ → ℤ → Reads ℤ
   enumerator first value s = elim (isName (kindAt ts (s .at))) [
-      false ↦ refused missingMark (here ts (s .at))
+      false ↦ refused missingMark (s .at)
     | true ↦ (do
         v ← enumeratorValue value (skip s)
-        x ← ranged (here ts (s .at)) (v .0)
-        e ← pushValue ts (record { row = markOf first; name = numberAt ts (s .at); value = x }) (v .1)
+        x ← ranged (s .at) (v .0)
+        e ← pushValue (record { row = markOf first; name = numberAt ts (s .at); value = x }) (v .1)
         got (x, e .1)) ]
 
   -- enumerators up to the closing brace; each round reads one
   unfoldable pub enumeratorsFrom : ℕ → ℕ → ℤ → State → Answer State
-  enumeratorsFrom zero first value s = refused missingMark (here ts (s .at))
+  enumeratorsFrom zero first value s = refused missingMark (s .at)
   enumeratorsFrom (suc f) first value s = elim (stands ts closeBrace s) [
       true ↦ got (skip s)
     | false ↦ (do
@@ -117,16 +117,16 @@ module _ (ts : Tokens) (m : Model) (next : Levels) where
   unfoldable pub enumBody : ℕ → Reads ℕ
   enumBody w s = let first = length (s .table .values) in do
     s₁ ← enumeratorsFrom (suc (left ts (s .at))) first (pos 0) s
-    closeEnum ts w (enumBytes m (drop first (s₁ .table .values))) (valuesSince first (s₁ .table)) s₁
+    closeEnum w (enumBytes m (drop first (s₁ .table .values))) (valuesSince first (s₁ .table)) s₁
 
   -- what follows the tag, if any; `at` is the tag's place
   unfoldable pub afterTag : ℕ → ℕ → Reads ℕ
   afterTag w at s =
     elim (stands ts colon s) [ true ↦ refused fixedEnum at | false ↦
-    elim (stands ts openBrace s) [ true ↦ enumBody w (skip s) | false ↦ bareEnum ts m w at s ] ]
+    elim (stands ts openBrace s) [ true ↦ enumBody w (skip s) | false ↦ bareEnum m w at s ] ]
 
   -- after `enum`
   unfoldable pub enumeration₁ : Reads ℕ
   enumeration₁ s = elim (isName (kindAt ts (s .at))) [
-      true ↦ afterTag (numberAt ts (s .at)) (here ts (s .at)) (skip s)
-    | false ↦ afterTag noName (here ts (s .at)) s ]
+      true ↦ afterTag (numberAt ts (s .at)) (s .at) (skip s)
+    | false ↦ afterTag noName (s .at) s ]

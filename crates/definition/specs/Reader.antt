@@ -33,9 +33,9 @@ constantHere ts s = do
 -- The readers with a number of levels left: with none, "depth above 64".
 unfoldable pub levels : Tokens → Model → ℕ → Levels
 levels ts m zero = record {
-    composite = λ union s. refused tooDeep (here ts (s .at)); enumeration = λ s. refused tooDeep (here ts (s .at))
-  ; declarator = λ used s. refused tooDeep (here ts (s .at)); direct = λ used s. refused tooDeep (here ts (s .at))
-  ; constant = λ s. refused tooDeep (here ts (s .at)) }
+    composite = λ union s. refused tooDeep (s .at); enumeration = λ s. refused tooDeep (s .at)
+  ; declarator = λ used s. refused tooDeep (s .at); direct = λ used s. refused tooDeep (s .at)
+  ; constant = λ s. refused tooDeep (s .at) }
 levels ts m (suc room) = let next = levels ts m room in record {
     composite = composite₁ ts m next; enumeration = enumeration₁ ts m next
   ; declarator = declarator₁ ts m next; direct = direct₁ ts m next; constant = constantHere ts }
@@ -60,21 +60,21 @@ unfoldable pub initialiser : Tokens → State → State
 initialiser ts s = elim (stands ts equals s) [ true ↦ skipInitialiser ts (suc (left ts (s .at))) (pos 0) (skip s) | false ↦ s ]
 
 -- a typedef's row; "typedef name given another type" is refused at the declarator's place
-unfoldable pub defineTypedef : Tokens → ℕ → ℕ → ℕ → Reads ℕ
-defineTypedef ts w b at s = elim (typedefRow (s .table) w) [
+unfoldable pub defineTypedef : ℕ → ℕ → ℕ → Reads ℕ
+defineTypedef w b at s = elim (typedefRow (s .table) w) [
     some n ↦ elim (eqb (targetOf (rowAt (s .table) n)) b) [ true ↦ got (n, s) | false ↦ refused typedefChanged at ]
-  | none ↦ pushRow ts (typedef w b) s ]
+  | none ↦ pushRow (typedef w b) s ]
 
 unfoldable pub isTypedef : Storage → Bool
 isTypedef c = eqb (storageNumber c) (storageNumber typedefStorage)
 
 -- the row that a declaration shows
-unfoldable pub declaredRow : Tokens → Storage → ℕ → ℕ → ℕ → Reads ℕ
-declaredRow ts c w b at s = elim (isTypedef c) [ true ↦ defineTypedef ts w b at s | false ↦ got (b, s) ]
+unfoldable pub declaredRow : Storage → ℕ → ℕ → ℕ → Reads ℕ
+declaredRow c w b at s = elim (isTypedef c) [ true ↦ defineTypedef w b at s | false ↦ got (b, s) ]
 
-unfoldable pub declare : Tokens → Storage → ℕ → ℕ → State → Answer State
-declare ts c b w s = do
-  d ← pushDeclaration ts (record { storage = c; type = b; name = w }) s
+unfoldable pub declare : Storage → ℕ → ℕ → State → Answer State
+declare c b w s = do
+  d ← pushDeclaration (record { storage = c; type = b; name = w }) s
   got (d .1)
 
 module _ (ts : Tokens) (m : Model) where
@@ -87,16 +87,16 @@ module _ (ts : Tokens) (m : Model) where
   unfoldable pub initDeclarator : Storage → ℕ → State → Answer State
   initDeclarator c b s = do
     d ← inner .declarator 0 s
-    r ← apply ts (d .0 .steps) b (d .1)
+    r ← apply (d .0 .steps) b (d .1)
     elim (eqb (d .0 .name) noName) [
-        true ↦ refused missingName (here ts (s .at))
+        true ↦ refused missingName (s .at)
       | false ↦ (do
-          n ← declaredRow ts c (d .0 .name) (r .0) (here ts (s .at)) (initialiser ts (r .1))
-          declare ts c (n .0) (d .0 .name) (n .1)) ]
+          n ← declaredRow c (d .0 .name) (r .0) (s .at) (initialiser ts (r .1))
+          declare c (n .0) (d .0 .name) (n .1)) ]
 
   -- each round reads one
   unfoldable pub initDeclarators : ℕ → Storage → ℕ → State → Answer State
-  initDeclarators zero c b s = refused missingMark (here ts (s .at))
+  initDeclarators zero c b s = refused missingMark (s .at)
   initDeclarators (suc f) c b s = do
     s₁ ← initDeclarator c b s
     elim (stands ts comma s₁) [ true ↦ initDeclarators f c b (skip s₁) | false ↦ got s₁ ]
@@ -105,17 +105,17 @@ module _ (ts : Tokens) (m : Model) where
   unfoldable pub declaration : State → Answer State
   declaration s = do
     p ← specifiers ts m inner s
-    b ← baseType ts m (p .0) (here ts (s .at)) (p .1)
+    b ← baseType m (p .0) (s .at) (p .1)
     elim (stands ts semicolon (b .1) || stands ts end (b .1)) [
         true ↦ elim (isTypedef (p .0 .storage)) [
-            true ↦ refused missingName (here ts (s .at))
-          | false ↦ declare ts (p .0 .storage) (b .0) noName (b .1) ]
+            true ↦ refused missingName (s .at)
+          | false ↦ declare (p .0 .storage) (b .0) noName (b .1) ]
       | false ↦ initDeclarators (suc (left ts (s .at))) (p .0 .storage) (b .0) (b .1) ]
 
   -- "A missing `;` between declarations is 10."
   unfoldable pub separated : State → Answer State
   separated s = elim (stands ts semicolon s) [ true ↦ got (skip s) | false ↦
-    elim (stands ts end s) [ true ↦ got s | false ↦ refused missingMark (here ts (s .at)) ] ]
+    elim (stands ts end s) [ true ↦ got s | false ↦ refused missingMark (s .at) ] ]
 
   -- declarations to the end; each round reads a semicolon or a declaration
   unfoldable pub declarationsFrom : ℕ → State → Answer State
@@ -130,24 +130,32 @@ module _ (ts : Tokens) (m : Model) where
   abbrev pub start : State
   start = record { at = 0; table = newTable }
 
+  -- the places of refusals as offsets in the text
+  unfoldable pub inText : {A : Type 0} → Answer A → Answer A
+  inText (got a) = got a
+  inText (refused n i) = refused n (here ts i)
+
   -- `translation_unit`: a whole header
   unfoldable pub translationUnit : Answer Table
   translationUnit = do
-    s ← declarationsFrom (suc (left ts 0)) start
+    s ← inText (declarationsFrom (suc (left ts 0)) start)
     got (s .table)
 
   -- a semicolon that may stand here
   unfoldable pub optionalSemicolon : State → State
   optionalSemicolon s = elim (stands ts semicolon s) [ true ↦ skip s | false ↦ s ]
 
-  -- "`declaration` finds more than one name, or a token after its declaration"
-  unfoldable pub single : State → Answer Table
-  single s = elim (stands ts end s) [
-      false ↦ refused notOneDeclaration (here ts (s .at))
-    | true ↦ elim (leb (length (s .table .declarations)) 1) [ true ↦ got (s .table) | false ↦ refused notOneDeclaration 0 ] ]
+  -- "`declaration` finds .. a token after its declaration"
+  unfoldable pub nothingMore : State → Answer State
+  nothingMore s = elim (stands ts end s) [ true ↦ got s | false ↦ refused notOneDeclaration (s .at) ]
 
-  -- `declaration`: one declaration, its semicolon optional
+  unfoldable pub loneDeclaration : Answer State
+  loneDeclaration = do
+    s ← declaration start
+    nothingMore (optionalSemicolon s)
+
+  -- `declaration`: one declaration, its semicolon optional; "more than one name" is refused at offset 0
   unfoldable pub oneDeclaration : Answer Table
   oneDeclaration = do
-    s ← declaration start
-    single (optionalSemicolon s)
+    s ← inText loneDeclaration
+    elim (leb (length (s .table .declarations)) 1) [ true ↦ got (s .table) | false ↦ refused notOneDeclaration 0 ]

@@ -6,7 +6,7 @@ use lib.Dec.{eqb, leb}
 use Rattle.definition.specs.Answer.{Answer, got, refused, _>>=_}
 use Rattle.definition.specs.Refusal.{badTypeWords, unknownType, layoutAttribute}
 use Rattle.definition.specs.Kind.{attribute, structWord, unionWord, enumWord, isName, isWord}
-use Rattle.definition.specs.Token.{Tokens, kindAt, numberAt, here, left}
+use Rattle.definition.specs.Token.{Tokens, kindAt, numberAt, left}
 use Rattle.definition.specs.Model.{Model}
 use Rattle.definition.specs.Row.{Row, isSome}
 use Rattle.definition.specs.Table.{State, Reads, skip}
@@ -17,23 +17,23 @@ use Rattle.definition.specs.Grammar.{Levels}
 -- the row of a type name: a typedef's, or that of a name that every program assumes
 unfoldable pub namedType : Tokens → Model → Reads ℕ
 namedType ts m s = elim (isName (kindAt ts (s .at))) [
-    false ↦ refused unknownType (here ts (s .at))
+    false ↦ refused unknownType (s .at)
   | true ↦ elim (typedefRow (s .table) (numberAt ts (s .at))) [
       some n ↦ got (n, s)
     | none ↦ elim (builtin m (kindAt ts (s .at))) [
-        some r ↦ add ts r s
-      | none ↦ refused unknownType (here ts (s .at)) ] ] ]
+        some r ↦ add r s
+      | none ↦ refused unknownType (s .at) ] ] ]
 
 -- the type that specifiers name, read from the offset `at`, with their qualifiers
-unfoldable pub wordsType : Tokens → Model → Specifiers → ℕ → Reads ℕ
-wordsType ts m p at s = elim (p .base) [
+unfoldable pub wordsType : Model → Specifiers → ℕ → Reads ℕ
+wordsType m p at s = elim (p .base) [
     some n ↦ got (n, s)
-  | none ↦ elim (combine m (p .words)) [ some r ↦ add ts r s | none ↦ refused badTypeWords at ] ]
+  | none ↦ elim (combine m (p .words)) [ some r ↦ add r s | none ↦ refused badTypeWords at ] ]
 
-unfoldable pub baseType : Tokens → Model → Specifiers → ℕ → Reads ℕ
-baseType ts m p at s = do
-  b ← wordsType ts m p at s
-  qualify ts (p .qualifiers) (b .0) (b .1)
+unfoldable pub baseType : Model → Specifiers → ℕ → Reads ℕ
+baseType m p at s = do
+  b ← wordsType m p at s
+  qualify (p .qualifiers) (b .0) (b .1)
 
 unfoldable pub isTagWord : ℕ → Bool
 isTagWord k = leb structWord k && leb k enumWord
@@ -49,17 +49,17 @@ module _ (ts : Tokens) (m : Model) (next : Levels) where
   unfoldable pub specifiersFrom : ℕ → Specifiers → Reads Specifiers
   specifiersFrom zero p s = got (p, s)
   specifiersFrom (suc f) p s = let k = kindAt ts (s .at) in
-    elim (isWord k) [ false ↦ elim (eqb k attribute) [ true ↦ refused layoutAttribute (here ts (s .at)) | false ↦ got (p, s) ] | true ↦
+    elim (isWord k) [ false ↦ elim (eqb k attribute) [ true ↦ refused layoutAttribute (s .at) | false ↦ got (p, s) ] | true ↦
     elim (isStorageWord k) [ true ↦ specifiersFrom f (storing p (storageOf k)) (skip s) | false ↦
     elim (isQualifierWord k) [ true ↦ specifiersFrom f (qualifying p (withQualifier k (p .qualifiers))) (skip s) | false ↦
     elim (isIgnoredWord k) [ true ↦ specifiersFrom f p (skip s) | false ↦
     elim (isTypeWord k) [
         true ↦ elim (isSome (p .base)) [
-            true ↦ refused badTypeWords (here ts (s .at))
+            true ↦ refused badTypeWords (s .at)
           | false ↦ specifiersFrom f (wording p k) (skip s) ]
       | false ↦ elim (isTagWord k) [
           true ↦ elim (namesType p) [
-              true ↦ refused badTypeWords (here ts (s .at))
+              true ↦ refused badTypeWords (s .at)
             | false ↦ (do
                 b ← taggedType k (skip s)
                 specifiersFrom f (basedOn p (b .0)) (b .1)) ]

@@ -9,7 +9,6 @@ use lib.ListN.{length, getD, drop}
 use Rattle.definition.specs.Answer.{Answer, got, refused}
 use Rattle.definition.specs.Refusal.{limitPassed}
 use Rattle.definition.specs.Limit.{maxRows, maxMembers, maxValues, maxParameters, maxDeclarations}
-use Rattle.definition.specs.Token.{Tokens, here}
 use Rattle.definition.specs.Row.{Row, void}
 
 -- Members, values and parameters are entries: "each with its row; that row is 0 where a body was replaced, an untagged body or a list
@@ -116,27 +115,27 @@ carrying rowOf n (suc c) [] = []
 carrying rowOf n (suc c) (e ∷ es) = elim (eqb (rowOf e) n) [ true ↦ e ∷ carrying rowOf n c es | false ↦ carrying rowOf n (suc c) es ]
 
 -- Each push is refused where its limit would be passed, "at the next token not yet read".
-unfoldable pub pushRow : Tokens → Row → Reads ℕ
-pushRow ts r s = elim (leb maxRows (length (s .table .rows))) [
-    true ↦ refused limitPassed (here ts (s .at))
+unfoldable pub pushRow : Row → Reads ℕ
+pushRow r s = elim (leb maxRows (length (s .table .rows))) [
+    true ↦ refused limitPassed (s .at)
   | false ↦ got (length (s .table .rows), withTable s (withRows (s .table) (s .table .rows ++ r ∷ []))) ]
 
-unfoldable pub pushMember : Tokens → Member → Reads ℕ
-pushMember ts e s = elim (leb maxMembers (length (s .table .members))) [
-    true ↦ refused limitPassed (here ts (s .at))
+unfoldable pub pushMember : Member → Reads ℕ
+pushMember e s = elim (leb maxMembers (length (s .table .members))) [
+    true ↦ refused limitPassed (s .at)
   | false ↦ got (length (s .table .members), withTable s (withMembers (s .table) (s .table .members ++ e ∷ []))) ]
 
-unfoldable pub pushValue : Tokens → Value → Reads ℕ
-pushValue ts e s = elim (leb maxValues (length (s .table .values))) [
-    true ↦ refused limitPassed (here ts (s .at))
+unfoldable pub pushValue : Value → Reads ℕ
+pushValue e s = elim (leb maxValues (length (s .table .values))) [
+    true ↦ refused limitPassed (s .at)
   | false ↦ got (length (s .table .values), withTable s (withValues (s .table) (s .table .values ++ e ∷ []))) ]
 
-unfoldable pub pushParameter : Tokens → Parameter → Reads ℕ
-pushParameter ts e s = elim (leb maxParameters (length (s .table .parameters))) [
-    true ↦ refused limitPassed (here ts (s .at))
+unfoldable pub pushParameter : Parameter → Reads ℕ
+pushParameter e s = elim (leb maxParameters (length (s .table .parameters))) [
+    true ↦ refused limitPassed (s .at)
   | false ↦ got (length (s .table .parameters), withTable s (withParameters (s .table) (s .table .parameters ++ e ∷ []))) ]
 
-unfoldable pub pushDeclaration : Tokens → Declaration → Reads ℕ
-pushDeclaration ts d s = elim (leb maxDeclarations (length (s .table .declarations))) [
-    true ↦ refused limitPassed (here ts (s .at))
+unfoldable pub pushDeclaration : Declaration → Reads ℕ
+pushDeclaration d s = elim (leb maxDeclarations (length (s .table .declarations))) [
+    true ↦ refused limitPassed (s .at)
   | false ↦ got (length (s .table .declarations), withTable s (withDeclarations (s .table) (s .table .declarations ++ d ∷ []))) ]

@@ -31,7 +31,7 @@ kindAt ts i = getD (ts .kinds) i end
 abbrev pub numberAt : Tokens → ℕ → ℕ
 numberAt ts i = getD (ts .numbers) i 0
 
--- the offset that a refusal at an index names: the token's, or the text's end
+-- Inside the parser a refusal names a token by its index; outside it names an offset: the token's, or the text's end.
 unfoldable pub here : Tokens → ℕ → ℕ
 here ts i = elim (eqb (kindAt ts i) end) [ true ↦ ts .textEnd | false ↦ getD (ts .places) i 0 ]
 
@@ -41,4 +41,4 @@ left ts i = length (ts .kinds) - i
 
 -- a mark that must stand here: the index after it
 unfoldable pub need : Tokens → ℕ → ℕ → Answer ℕ
-need ts mark i = elim (eqb (kindAt ts i) mark) [ true ↦ got (i + 1) | false ↦ refused missingMark (here ts i) ]
+need ts mark i = elim (eqb (kindAt ts i) mark) [ true ↦ got (i + 1) | false ↦ refused missingMark i ]

@@ -12,7 +12,6 @@ use Rattle.definition.specs.Limit.{maxResolve}
 use Rattle.definition.specs.RowKind.{enumKind, functionKind, typedefKind, qualifiedKind}
 use Rattle.definition.specs.Row.{Row, void, int, float, bool, pointer, array, composite, enumeration, function, typedef, qualified, Qualifiers, unqualified, Span, compositeKind, kindOf, targetOf, flagsOf, rowName, spanOf, extentOf}
 use Rattle.definition.specs.Table.{Member, Value, Parameter, Table, State, Reads, rowAt, markOf, carrying, pushRow}
-use Rattle.definition.specs.Token.{Tokens}
 
 -- The row of a kind and a name, the rows being numbered from n: struct, union and enum tags and typedef names are apart.
 unfoldable pub rowNamed : ℕ → ℕ → ℕ → List Row → Option ℕ
@@ -82,8 +81,8 @@ equalRow t r n [] = none
 equalRow t r n (x ∷ xs) = elim (sameRow t r n x) [ true ↦ some n | false ↦ equalRow t r (suc n) xs ]
 
 -- `add` of an unnamed type: an equal row, or the next one
-unfoldable pub add : Tokens → Row → Reads ℕ
-add ts r s = elim (equalRow (s .table) r 0 (s .table .rows)) [ some n ↦ got (n, s) | none ↦ pushRow ts r s ]
+unfoldable pub add : Row → Reads ℕ
+add r s = elim (equalRow (s .table) r 0 (s .table .rows)) [ some n ↦ got (n, s) | none ↦ pushRow r s ]
 
 -- entries, from a number on, that pass a test, changed
 abbrev pub changedIf : {E : Type 0} → Bool → (E → E) → E → E
@@ -115,11 +114,11 @@ qualifiersOf (function r v e) = unqualified
 qualifiersOf (typedef w r) = unqualified
 qualifiersOf (qualified r q) = q
 
-unfoldable pub qualify : Tokens → Qualifiers → ℕ → Reads ℕ
-qualify ts q n s = elim (isUnqualified q) [ true ↦ got (n, s) | false ↦
+unfoldable pub qualify : Qualifiers → ℕ → Reads ℕ
+qualify q n s = elim (isUnqualified q) [ true ↦ got (n, s) | false ↦
   elim (eqb (kindOf (rowAt (s .table) n)) qualifiedKind) [
-      true ↦ add ts (qualified (targetOf (rowAt (s .table) n)) (merged (qualifiersOf (rowAt (s .table) n)) q)) s
-    | false ↦ add ts (qualified n q) s ] ]
+      true ↦ add (qualified (targetOf (rowAt (s .table) n)) (merged (qualifiersOf (rowAt (s .table) n)) q)) s
+    | false ↦ add (qualified n q) s ] ]
 
 -- a name for a type, or a type with qualifiers: what is looked through
 unfoldable pub isAlias : Row → Bool
