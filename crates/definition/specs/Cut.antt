@@ -6,6 +6,7 @@ use lib.Dec.{eqb, leb, ltb}
 use lib.ListN.{length, drop, take}
 use Rattle.definition.specs.Answer.{Answer, got, refused, _>>=_}
 use Rattle.definition.specs.Refusal.{textTooLong, notAscii, macroLine, strayByte}
+use Rattle.definition.specs.Limit.{maxText}
 use Rattle.definition.specs.Text.{Bytes, byteAt}
 use Rattle.definition.specs.Byte.{lineFeed, hash, apostrophe, quote}
 use Rattle.definition.specs.Class.{letter, digit, classOf, isBlank}
@@ -23,9 +24,6 @@ use Rattle.definition.specs.Spelling.{Spelling, knownName}
 use Rattle.definition.specs.Token.{Token, Tokens, columns}
 use Rattle.definition.specs.Kind as kind
 
--- "at most 32,768 of them"
-abbrev pub longestText : ℕ
-longestText = 32768
 
 -- "Domain: bytes 0 to 127"
 abbrev pub lastByte : ℕ
@@ -202,7 +200,7 @@ checkBytes text =
 -- The tokens of a text, or its first refusal.
 unfoldable pub tokenize : Bytes → Answer Tokens
 tokenize text =
-    elim (ltb longestText (length text)) [
+    elim (ltb maxText (length text)) [
       | true ↦ refused textTooLong 0
       | false ↦ (do
         n ← checkBytes text

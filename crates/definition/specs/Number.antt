@@ -6,6 +6,7 @@ use Prim.Native.Char.{code}
 use lib.Dec.{eqb, leb, ltb}
 use lib.ListN.{length, drop, take}
 use Rattle.definition.specs.Answer.{Answer, got, refused}
+use Rattle.definition.specs.Range.{aboveRange}
 use Rattle.definition.specs.Refusal.{badLiteral, outOfRange}
 use Rattle.definition.specs.Text.{Bytes, bytes, byteAt}
 use Rattle.definition.specs.Byte.{dotByte}
@@ -73,7 +74,7 @@ valueFrom base v (b ∷ bs) = valueFrom base (v * base + digitValue b) bs
 
 -- "exact value outside -2^63 to 2^63 - 1; at the literal"
 unfoldable pub inRange : ℕ → ℕ → Answer ℕ
-inRange at v = elim (ltb v (2 ^ 63)) [ true ↦ got v | false ↦ refused outOfRange at ]
+inRange at v = elim (ltb v aboveRange) [ true ↦ got v | false ↦ refused outOfRange at ]
 
 -- "malformed number .. a literal only too large is 8"
 unfoldable pub digitsValue : ℕ → ℕ → Bytes → Answer ℕ
