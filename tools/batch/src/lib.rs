@@ -131,9 +131,7 @@ fn read_line(input: &mut impl BufRead) -> io::Result<Option<String>> {
     if line.pop() != Some(b'\n') {
         return Err(damaged("a header line does not end".into()));
     }
-    String::from_utf8(line)
-        .map(Some)
-        .map_err(|_| damaged("a header line is not text".into()))
+    String::from_utf8(line).map(Some).map_err(|_| damaged("a header line is not text".into()))
 }
 
 fn read_counted(input: &mut impl BufRead, length: usize) -> io::Result<Vec<u8>> {
@@ -143,7 +141,7 @@ fn read_counted(input: &mut impl BufRead, length: usize) -> io::Result<Vec<u8>> 
     let mut bytes = vec![0; length + 1];
     input
         .read_exact(&mut bytes)
-        .map_err(|_| damaged(format!("the batch ends inside {length} promised bytes")))?;
+        .map_err(|_| damaged(format!("the input ends inside {length} promised bytes")))?;
     if bytes.pop() != Some(b'\n') {
         return Err(damaged(format!("no line feed after {length} bytes")));
     }
@@ -156,11 +154,7 @@ mod tests {
 
     #[test]
     fn records_survive_a_round_trip() {
-        let record = Record {
-            model: 7,
-            entry: Entry::Decl,
-            text: b"a\n\0\xff".to_vec(),
-        };
+        let record = Record { model: 7, entry: Entry::Decl, text: b"a\n\0\xff".to_vec() };
         let mut bytes = Vec::new();
         write_record(&mut bytes, &record).unwrap();
         write_record(&mut bytes, &record).unwrap();
@@ -169,7 +163,9 @@ mod tests {
 
     #[test]
     fn damaged_batches_are_refused() {
-        for bytes in ["", "0 unit", "0 unit 3\nab\n", "0 file 0\n\n", "0 unit 1\nab\n", "x unit 0\n\n"] {
+        for bytes in
+            ["", "0 unit", "0 unit 3\nab\n", "0 file 0\n\n", "0 unit 1\nab\n", "x unit 0\n\n"]
+        {
             assert!(read_batch(&mut bytes.as_bytes()).is_err(), "{bytes:?}");
         }
     }
