@@ -1,0 +1,4 @@
+pub mod Half
+pub mod Signs
+pub mod Bitwise
+pub mod Told

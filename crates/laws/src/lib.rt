@@ -1,0 +1,1 @@
+// Laws of the definition, in specs/ and proofs/. There is no code here.
