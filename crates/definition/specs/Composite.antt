@@ -26,18 +26,19 @@ use Rattle.definition.specs.Declarator.{apply}
 abbrev pub withRow : Member → ℕ → Member
 withRow e n = record { row = n; type = e .type; name = e .name; width = e .width; offset = e .offset; firstBit = e .firstBit }
 
+-- the fields of a body, from number `first` on, get its row
+unfoldable pub ownMembers : ℕ → ℕ → List Member → List Member
+ownMembers first n ms = changedFrom (λ e. eqb (e .row) (markOf first)) (λ e. withRow e n) first ms
+
 -- a member of width 0 is no field
 abbrev pub isField : Option ℕ → Bool
 isField none = true
 isField (some zero) = false
 isField (some (suc w)) = true
 
--- and carries row 0
-abbrev pub fieldRow : ℕ → Option ℕ → ℕ
-fieldRow n width = elim (isField width) [ true ↦ n | false ↦ 0 ]
-
-unfoldable pub ownMembers : ℕ → ℕ → List Member → List Member
-ownMembers first n ms = changedFrom (λ e. eqb (e .row) (markOf first)) (λ e. withRow e (fieldRow n (e .width))) first ms
+-- and carries row 0 as soon as the body is laid out
+unfoldable pub fieldsOnly : ℕ → List Member → List Member
+fieldsOnly first ms = changedFrom (λ e. eqb (e .row) (markOf first) && not (isField (e .width))) (λ e. withRow e 0) first ms
 
 -- the members of a body that was replaced carry row 0
 unfoldable pub releaseMembers : Row → ℕ → List Member → List Member
@@ -45,15 +46,19 @@ releaseMembers old n ms = elim (eqb (spanOf old .count) 0) [
     true ↦ ms
   | false ↦ changedFrom (λ e. eqb (e .row) n) (λ e. withRow e 0) 0 ms ]
 
--- how many of a body's entries are fields
-unfoldable pub fieldCount : ℕ → List Member → ℕ
-fieldCount mark [] = 0
-fieldCount mark (e ∷ es) = elim (eqb (e .row) mark && isField (e .width)) [ true ↦ suc (fieldCount mark es) | false ↦ fieldCount mark es ]
+-- how many of some entries carry a mark
+unfoldable pub howManyCarry : ℕ → List Member → ℕ
+howManyCarry mark [] = 0
+howManyCarry mark (e ∷ es) = elim (eqb (e .row) mark) [ true ↦ suc (howManyCarry mark es) | false ↦ howManyCarry mark es ]
 
 -- A body that was laid out: its size, and where its fields stand.
 pub record Body : Type 0 where
   pub size : ℕ
   pub fields : Span
+
+-- the body of a size whose fields are among some entries
+abbrev pub laidBody : ℕ → ℕ → List Member → Body
+laidBody first size ms = record { size = size; fields = record { first = first; count = howManyCarry (markOf first) (drop first ms) } }
 
 -- the body of tag w, whose row is n
 unfoldable pub defineBody : Bool → ℕ → ℕ → Body → State → State
@@ -166,8 +171,8 @@ module _ (ts : Tokens) (m : Model) (next : Levels) where
   body union at s = let first = length (s .table .members) in do
     s₁ ← membersFrom (suc (left ts (s .at))) first s
     l ← layout m (s₁ .table) union first at
-    got (record { size = l .0; fields = record { first = first; count = fieldCount (markOf first) (drop first (l .1)) } },
-      withTable s₁ (withMembers (noted (not union || noneWide m (s₁ .table) (markOf first) (drop first (s₁ .table .members))) (s₁ .table)) (l .1)))
+    got (laidBody first (l .0) (fieldsOnly first (l .1)),
+      withTable s₁ (withMembers (noted (not union || noneWide m (s₁ .table) (markOf first) (drop first (s₁ .table .members))) (s₁ .table)) (fieldsOnly first (l .1))))
 
   -- a tag is known before its body is read, so that the body can name it
   unfoldable pub taggedComposite : Bool → ℕ → ℕ → Reads ℕ

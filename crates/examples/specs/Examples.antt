@@ -185,8 +185,8 @@ unfolding marked refusals others reply lastAlign lastType parens nest times line
     Specifiers.specifiersFrom Specifiers.specifiers Declarator.ownParameters Declarator.addFunction Declarator.apply Declarator.adjusted
     Declarator.qualifiersFrom Declarator.oneMoreStep Declarator.starsFrom Declarator.starred Declarator.opensDeclarator Declarator.boundWords
     Declarator.isVoidList Declarator.constantBound Declarator.arrayBound Declarator.parameter Declarator.parametersEnd Declarator.parametersFrom
-    Declarator.parameters Declarator.suffixesFrom Declarator.suffixes Declarator.direct₁ Declarator.declarator₁ Composite.ownMembers
-    Composite.releaseMembers Composite.fieldCount Composite.defineBody Composite.addBody Composite.tagRow Composite.isComposite Composite.noted
+    Declarator.parameters Declarator.suffixesFrom Declarator.suffixes Declarator.direct₁ Declarator.declarator₁ Composite.ownMembers Composite.fieldsOnly
+    Composite.releaseMembers Composite.howManyCarry Composite.defineBody Composite.addBody Composite.tagRow Composite.isComposite Composite.noted
     Composite.bitWidth Composite.memberDeclarator Composite.memberDeclarators Composite.anonymousMember Composite.memberDeclaration Composite.membersFrom
     Composite.body Composite.taggedComposite Composite.untaggedComposite Composite.composite₁ Enumeration.valueNamed Enumeration.ownValues
     Enumeration.releaseValues Enumeration.allFit Enumeration.enumBytes Enumeration.enumTagRow Enumeration.defineEnum Enumeration.addEnum

@@ -5,3 +5,6 @@ pub mod Progress
 pub mod Same
 pub mod Rounds
 pub mod Counted
+pub mod Each
+pub mod Scalars
+pub mod Sound

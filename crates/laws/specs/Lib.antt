@@ -1,3 +1,4 @@
 pub mod Every
 pub mod Enough
 pub mod Progress
+pub mod Inside
