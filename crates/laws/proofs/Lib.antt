@@ -8,3 +8,4 @@ pub mod Counted
 pub mod Each
 pub mod Scalars
 pub mod Sound
+pub mod LayoutKeeps

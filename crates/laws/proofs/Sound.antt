@@ -17,7 +17,7 @@ use Rattle.definition.specs.Row.{Row, void, Span, compositeKind, kindOf, target
 use Rattle.definition.specs.Table.{Member, Value, Parameter, Declaration, Table, State, rowAt, markOf, pushRow, pushMember, pushValue, pushParameter, pushDeclaration}
 use Rattle.definition.specs.Types.{rowNamed, equalRow, sameRow, add, changedFrom}
 use Rattle.definition.specs.Declarator.{ownParameters}
-use Rattle.definition.specs.Composite.{isField, fieldRow, ownMembers, releaseMembers}
+use Rattle.definition.specs.Composite.{isField, ownMembers, fieldsOnly, releaseMembers}
 use Rattle.definition.specs.Enumeration.{ownValues, releaseValues}
 use Rattle.laws.specs.Every.{Every}
 use Rattle.laws.proofs.Every.{got!, no!, bool!, test!, option!, then!, weaker! }
@@ -277,18 +277,11 @@ module _ (o : Marks) (s : State) (h : Sound o (s .table)) where
 
 -- ---- lists that are closed
 
-field-below : {n : ℕ} (b : ℕ) (w : Option ℕ) → b < n → fieldRow b w < n
-field-below {n} b w p = go (isField w)
-  where
-    go : (t : Bool) → (elim t as (λ z. ℕ) [ true ↦ b | false ↦ 0 ]) < n
-    go true = p
-    go false = omega arith
-
 module _ {n : ℕ} {os : List ℕ} where
   pub members-owned : (first b : ℕ) {ms : List Member} → b < n → Each (MemberIn n (first ∷ os)) 0 ms → Each (MemberIn n os) 0 (ownMembers first b ms)
   unfolding ownMembers
   members-owned first b p h = each-changed (MemberIn n (first ∷ os)) (MemberIn n os) _ _
-    (λ i e t k. record { carries = row (field-below b (e .width) p); type = k .type })
+    (λ i e t k. record { carries = row p; type = k .type })
     (λ i e t k. record { carries = carries-other first t (k .carries); type = k .type })
     first (λ i e l k. record { carries = carries-earlier first (omega arith) (k .carries); type = k .type }) h
 
@@ -305,6 +298,11 @@ module _ {n : ℕ} {os : List ℕ} where
     (λ i e t k. record { carries = row p; type = k .type })
     (λ i e t k. record { carries = carries-other first t (k .carries); type = k .type })
     first (λ i e l k. record { carries = carries-earlier first (omega arith) (k .carries); type = k .type }) h
+
+  -- a field of width 0 carries row 0
+  pub members-fields : (first : ℕ) {ms : List Member} → 0 < n → Each (MemberIn n os) 0 ms → Each (MemberIn n os) 0 (fieldsOnly first ms)
+  unfolding fieldsOnly
+  members-fields first p h = each-changed (MemberIn n os) (MemberIn n os) _ _ (λ i e t k. record { carries = row p; type = k .type }) (λ i e t k. k) first (λ i e l k. k) h
 
   pub members-released : (old : Row) (b : ℕ) {ms : List Member} → 0 < n → Each (MemberIn n os) 0 ms → Each (MemberIn n os) 0 (releaseMembers old b ms)
   unfolding releaseMembers
@@ -328,6 +326,10 @@ module _ {n : ℕ} {os : List ℕ} where
 pub ownMembers-length : (first b : ℕ) (ms : List Member) → length (ownMembers first b ms) ≡ length ms
 unfolding ownMembers
 ownMembers-length first b ms = changed-length _ _ first ms
+
+pub fieldsOnly-length : (first : ℕ) (ms : List Member) → length (fieldsOnly first ms) ≡ length ms
+unfolding fieldsOnly
+fieldsOnly-length first ms = changed-length _ _ first ms
 
 pub ownValues-length : (first b : ℕ) (vs : List Value) → length (ownValues first b vs) ≡ length vs
 unfolding ownValues
