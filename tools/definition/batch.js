@@ -94,6 +94,7 @@ function answerBatch() {
     const text = input.counted(length);
     if (input.counted(1)[0] !== LINE_FEED) throw new Error("a record's text is not followed by a line feed");
     const answer = answerTo(model, entry, text);
+    forget();
     writeAll(Buffer.concat([Buffer.from(`answer ${answer.length}\n`), answer, Buffer.from("\n")]));
   }
 }

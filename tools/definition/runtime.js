@@ -156,6 +156,30 @@ function once(compute) {
   };
 }
 
+// ---- functions whose results are kept until `forget`: by numbers' values and all other arguments' identity
+
+const remembering = [];
+
+function remembered(f) {
+  let known = new Map();
+  remembering.push(() => {
+    known = new Map();
+  });
+  return waitingFor(f.length, (...given) => {
+    let at = known;
+    for (const argument of given) {
+      if (!at.has(argument)) at.set(argument, new Map());
+      at = at.get(argument);
+    }
+    if (at.found === undefined) at.found = f(...given);
+    return at.found;
+  });
+}
+
+function forget() {
+  for (const forgetOne of remembering) forgetOne();
+}
+
 // ---- calls of functions that are not known by name: `length` says how many arguments one takes
 
 function apply1(f, a) {

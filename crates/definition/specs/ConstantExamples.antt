@@ -30,7 +30,7 @@ abbrev known : ℕ → Option ℤ
 known k = elim (eqb k 7) [ true ↦ some (pos 1440) | false ↦ none ]
 
 abbrev value : List (ℕ × ℕ) → Read
-value ts = constant (columns (numbered 0 ts) 99) known 0
+value ts = constant (columns (numbered 0 ts) 0 .tokens) known 0
 
 unfoldable repeat : ℕ → ℕ × ℕ → List (ℕ × ℕ)
 repeat zero t = []

@@ -21,7 +21,7 @@ use Rattle.definition.specs.Mark.{Mark, markAt}
 use Rattle.definition.specs.Word.{kindOf}
 use Rattle.definition.specs.Name.{noName, nameOf}
 use Rattle.definition.specs.Spelling.{Spelling, knownName}
-use Rattle.definition.specs.Token.{Token, Tokens, columns}
+use Rattle.definition.specs.Token.{Token, Lexed, columns}
 use Rattle.definition.specs.Kind as kind
 
 
@@ -198,7 +198,7 @@ checkBytes text =
     elim (ltb n (length text)) [ true ↦ refused notAscii n | false ↦ got n ]
 
 -- The tokens of a text, or its first refusal.
-unfoldable pub tokenize : Bytes → Answer Tokens
+unfoldable pub tokenize : Bytes → Answer Lexed
 tokenize text =
     elim (ltb maxText (length text)) [
       | true ↦ refused textTooLong 0

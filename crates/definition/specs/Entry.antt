@@ -7,7 +7,7 @@ use Rattle.definition.specs.Answer.{Answer, got, refused, _>>=_}
 use Rattle.definition.specs.Refusal.{badCall}
 use Rattle.definition.specs.Text.{Bytes}
 use Rattle.definition.specs.Place.{placeOf}
-use Rattle.definition.specs.Token.{Tokens}
+use Rattle.definition.specs.Token.{Lexed}
 use Rattle.definition.specs.Cut.{tokenize}
 use Rattle.definition.specs.Model.{Model, modelOf}
 use Rattle.definition.specs.Table.{Table}
@@ -23,16 +23,16 @@ pub record Accepted : Type 0 where
   pub table : Table
   pub names : List ℕ
 
-unfoldable pub parse : Entry → Tokens → Model → Answer Table
-parse wholeHeader ts m = translationUnit ts m
-parse singleDeclaration ts m = oneDeclaration ts m
+unfoldable pub parse : Entry → Lexed → Model → Answer Table
+parse wholeHeader x m = translationUnit x m
+parse singleDeclaration x m = oneDeclaration x m
 
 -- "Order: 1, 2, 3, then the whole text cut into tokens (4 to 8 for literals), then parsing; the first found is given."
 unfoldable pub readWith : Model → Entry → Bytes → Answer Accepted
 readWith m entry text = do
-  ts ← tokenize text
-  t ← parse entry ts m
-  got (record { table = t; names = nameTable ts t })
+  x ← tokenize text
+  t ← parse entry x m
+  got (record { table = t; names = nameTable x t })
 
 -- "model not 0 to 2, or a lent table shorter than its limit; offset 0"
 unfoldable pub read : ℕ → Bool → Entry → Bytes → Answer Accepted

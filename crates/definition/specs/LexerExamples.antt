@@ -19,7 +19,7 @@ use Rattle.definition.specs.Character.{endsHex, escaped, hexByte, escape
 use Rattle.definition.specs.Quoted.{inQuotes, afterString}
 use Rattle.definition.specs.Name.{nameOf}
 use Rattle.definition.specs.Spelling.{knownName}
-use Rattle.definition.specs.Token.{Tokens, columns}
+use Rattle.definition.specs.Token.{Lexed, columns}
 use Rattle.definition.specs.Kind as kind
 use Rattle.definition.specs.Kind.{isName}
 use Rattle.definition.specs.Cut.{skipTo, newLine, dropTo, push, meet, pushName, pushAttribute, cutWordOf, wordAt, cutWord, numberWord, cutNumber, cutCharacter, cutString, cutMark, cutToken, cutDirective, cutComment, cutOther, cutNext, cutAll, cut, aboveAscii, checkBytes, tokenize}
@@ -29,8 +29,8 @@ data Says : Type 0 where
   tokens : List ℕ → List ℕ → List ℕ → Says
   refusal : ℕ → ℕ → Says
 
-abbrev says : Answer Tokens → Says
-says (got ts) = tokens (ts .kinds) (ts .places) (ts .numbers)
+abbrev says : Answer Lexed → Says
+says (got x) = tokens (x .tokens .kinds) (x .places) (x .tokens .numbers)
 says (refused n at) = refusal n at
 
 cutText : Bytes → Says

@@ -5,7 +5,7 @@ use Prim.Native.Nat.{ℕ}
 use lib.Dec.{eqb}
 use Rattle.definition.specs.Kind.{isName}
 use Rattle.definition.specs.Name.{offsetOf}
-use Rattle.definition.specs.Token.{Tokens}
+use Rattle.definition.specs.Token.{Lexed}
 use Rattle.definition.specs.Row.{Row, rowName}
 use Rattle.definition.specs.Table.{Member, Value, Parameter, Declaration, Table}
 
@@ -27,5 +27,5 @@ namesAmong held (k ∷ ks) (p ∷ ps) [] = []
 namesAmong held (k ∷ ks) [] ns = []
 namesAmong held [] ps ns = []
 
-unfoldable pub nameTable : Tokens → Table → List ℕ
-nameTable ts t = namesAmong (heldNames t) (ts .kinds) (ts .places) (ts .numbers)
+unfoldable pub nameTable : Lexed → Table → List ℕ
+nameTable x t = namesAmong (heldNames t) (x .tokens .kinds) (x .places) (x .tokens .numbers)

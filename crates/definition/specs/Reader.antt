@@ -12,7 +12,7 @@ use Rattle.definition.specs.Refusal.{tooDeep, missingMark, missingName, 
 use Rattle.definition.specs.Limit.{maxDepth}
 use Rattle.definition.specs.Kind.{end, openParen, closeParen, openBracket, closeBracket, openBrace, closeBrace, comma, semicolon, equals}
 use Rattle.definition.specs.Name.{noName}
-use Rattle.definition.specs.Token.{Tokens, kindAt, here, left}
+use Rattle.definition.specs.Token.{Tokens, Lexed, kindAt, here, left}
 use Rattle.definition.specs.Constant.{constant}
 use Rattle.definition.specs.Model.{Model}
 use Rattle.definition.specs.Row.{Row, typedef, targetOf}
@@ -130,17 +130,6 @@ module _ (ts : Tokens) (m : Model) where
   abbrev pub start : State
   start = record { at = 0; table = newTable }
 
-  -- the places of refusals as offsets in the text
-  unfoldable pub inText : {A : Type 0} → Answer A → Answer A
-  inText (got a) = got a
-  inText (refused n i) = refused n (here ts i)
-
-  -- `translation_unit`: a whole header
-  unfoldable pub translationUnit : Answer Table
-  translationUnit = do
-    s ← inText (declarationsFrom (suc (left ts 0)) start)
-    got (s .table)
-
   -- a semicolon that may stand here
   unfoldable pub optionalSemicolon : State → State
   optionalSemicolon s = elim (stands ts semicolon s) [ true ↦ skip s | false ↦ s ]
@@ -149,13 +138,28 @@ module _ (ts : Tokens) (m : Model) where
   unfoldable pub nothingMore : State → Answer State
   nothingMore s = elim (stands ts end s) [ true ↦ got s | false ↦ refused notOneDeclaration (s .at) ]
 
+  -- all declarations, or one alone, its semicolon optional
+  unfoldable pub allDeclarations : Answer State
+  allDeclarations = declarationsFrom (suc (left ts 0)) start
+
   unfoldable pub loneDeclaration : Answer State
   loneDeclaration = do
     s ← declaration start
     nothingMore (optionalSemicolon s)
 
-  -- `declaration`: one declaration, its semicolon optional; "more than one name" is refused at offset 0
-  unfoldable pub oneDeclaration : Answer Table
-  oneDeclaration = do
-    s ← inText loneDeclaration
-    elim (leb (length (s .table .declarations)) 1) [ true ↦ got (s .table) | false ↦ refused notOneDeclaration 0 ]
+-- the places of refusals as offsets in the text
+unfoldable pub inText : {A : Type 0} → Lexed → Answer A → Answer A
+inText x (got a) = got a
+inText x (refused n i) = refused n (here x i)
+
+-- `translation_unit`: a whole header
+unfoldable pub translationUnit : Lexed → Model → Answer Table
+translationUnit x m = do
+  s ← inText x (allDeclarations (x .tokens) m)
+  got (s .table)
+
+-- `declaration`: one declaration; "more than one name" is refused at offset 0
+unfoldable pub oneDeclaration : Lexed → Model → Answer Table
+oneDeclaration x m = do
+  s ← inText x (loneDeclaration (x .tokens) m)
+  elim (leb (length (s .table .declarations)) 1) [ true ↦ got (s .table) | false ↦ refused notOneDeclaration 0 ]

@@ -14,15 +14,19 @@ pub record Token : Type 0 where
   pub place : ℕ
   pub number : ℕ
 
--- All tokens of a text, in columns, and the text's length.
+-- What the parser reads: the kinds and the numbers of all tokens.
 pub record Tokens : Type 0 where
   pub kinds : List ℕ
-  pub places : List ℕ
   pub numbers : List ℕ
+
+-- A text cut into tokens: with the place of each, and the text's length.
+pub record Lexed : Type 0 where
+  pub tokens : Tokens
+  pub places : List ℕ
   pub textEnd : ℕ
 
-unfoldable pub columns : List Token → ℕ → Tokens
-columns ts e = record { kinds = map (λ t. t .kind) ts; places = map (λ t. t .place) ts; numbers = map (λ t. t .number) ts; textEnd = e }
+unfoldable pub columns : List Token → ℕ → Lexed
+columns ts e = record { tokens = record { kinds = map (λ t. t .kind) ts; numbers = map (λ t. t .number) ts }; places = map (λ t. t .place) ts; textEnd = e }
 
 -- the kind of the token at an index: `end` past the last
 abbrev pub kindAt : Tokens → ℕ → ℕ
@@ -32,8 +36,8 @@ abbrev pub numberAt : Tokens → ℕ → ℕ
 numberAt ts i = getD (ts .numbers) i 0
 
 -- Inside the parser a refusal names a token by its index; outside it names an offset: the token's, or the text's end.
-unfoldable pub here : Tokens → ℕ → ℕ
-here ts i = elim (eqb (kindAt ts i) end) [ true ↦ ts .textEnd | false ↦ getD (ts .places) i 0 ]
+unfoldable pub here : Lexed → ℕ → ℕ
+here x i = elim (eqb (kindAt (x .tokens) i) end) [ true ↦ x .textEnd | false ↦ getD (x .places) i 0 ]
 
 -- how many tokens are left
 abbrev pub left : Tokens → ℕ → ℕ

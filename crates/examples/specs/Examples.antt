@@ -193,18 +193,18 @@ unfolding marked refusals others reply lastAlign lastType parens nest times line
     Enumeration.bareEnum Enumeration.closeEnum Enumeration.enumeratorValue Enumeration.enumerator Enumeration.enumeratorsFrom Enumeration.enumBody
     Enumeration.afterTag Enumeration.enumeration₁ Reader.constantHere Reader.levels Reader.nested Reader.skipInitialiser Reader.initialiser
     Reader.defineTypedef Reader.isTypedef Reader.declaredRow Reader.declare Reader.initDeclarator Reader.initDeclarators Reader.declaration
-    Reader.separated Reader.declarationsFrom Reader.inText Reader.translationUnit Reader.optionalSemicolon Reader.nothingMore Reader.loneDeclaration
-    Reader.oneDeclaration Class.among Class.isBlankByte Class.isLetterByte Class.isDigitByte Class.markBytes Class.classOf Class.isBlank Class.isWordByte
-    Scan.begins Scan.before Scan.startsWith Scan.contains Place.after Place.afterAll Place.placeOf Word.attributeWords Word.keywords Word.builtinNames
-    Word.words Word.kindAmong Word.kindOf Mark.twoByteMarks Mark.oneByteMarks Mark.markAmong Mark.shortMark Mark.markOf Mark.markAt Comment.joins
-    Comment.opensLineComment Comment.opensComment Comment.endsLine Comment.lineLength Comment.endsComment Comment.commentEnd Comment.afterComment
-    Directive.lineFrom Directive.directive Directive.pastBlanks Directive.saysSomething Directive.endsWord Directive.isBody Directive.isNameAndBody
-    Directive.isMacro Attribute.notBlank Attribute.inParens Attribute.changesLayout Attribute.parenthesized Attribute.attributeAt Number.isNumberByte
-    Number.endsNumber Number.digitValue Number.suffixBytes Number.bodyLength Number.baseOf Number.areDigits Number.valueFrom Number.inRange
-    Number.digitsValue Number.bodyValue Number.numberValue Character.endsHex Character.escaped Character.hexByte Character.escape Character.oneByte
-    Character.bytesFrom Character.characterAt Quoted.inQuotes Quoted.afterString Spelling.knownName Cut.skipTo Cut.newLine Cut.dropTo Cut.push Cut.meet
-    Cut.pushName Cut.pushAttribute Cut.cutWordOf Cut.wordAt Cut.cutWord Cut.numberWord Cut.cutNumber Cut.cutCharacter Cut.cutString Cut.cutMark
-    Cut.cutToken Cut.cutDirective Cut.cutComment Cut.cutOther Cut.cutNext Cut.cutAll Cut.cut Cut.aboveAscii Cut.checkBytes Cut.tokenize
+    Reader.separated Reader.declarationsFrom Reader.optionalSemicolon Reader.nothingMore Reader.allDeclarations Reader.loneDeclaration Reader.inText
+    Reader.translationUnit Reader.oneDeclaration Class.among Class.isBlankByte Class.isLetterByte Class.isDigitByte Class.markBytes Class.classOf
+    Class.isBlank Class.isWordByte Scan.begins Scan.before Scan.startsWith Scan.contains Place.after Place.afterAll Place.placeOf Word.attributeWords
+    Word.keywords Word.builtinNames Word.words Word.kindAmong Word.kindOf Mark.twoByteMarks Mark.oneByteMarks Mark.markAmong Mark.shortMark Mark.markOf
+    Mark.markAt Comment.joins Comment.opensLineComment Comment.opensComment Comment.endsLine Comment.lineLength Comment.endsComment Comment.commentEnd
+    Comment.afterComment Directive.lineFrom Directive.directive Directive.pastBlanks Directive.saysSomething Directive.endsWord Directive.isBody
+    Directive.isNameAndBody Directive.isMacro Attribute.notBlank Attribute.inParens Attribute.changesLayout Attribute.parenthesized Attribute.attributeAt
+    Number.isNumberByte Number.endsNumber Number.digitValue Number.suffixBytes Number.bodyLength Number.baseOf Number.areDigits Number.valueFrom
+    Number.inRange Number.digitsValue Number.bodyValue Number.numberValue Character.endsHex Character.escaped Character.hexByte Character.escape
+    Character.oneByte Character.bytesFrom Character.characterAt Quoted.inQuotes Quoted.afterString Spelling.knownName Cut.skipTo Cut.newLine Cut.dropTo
+    Cut.push Cut.meet Cut.pushName Cut.pushAttribute Cut.cutWordOf Cut.wordAt Cut.cutWord Cut.numberWord Cut.cutNumber Cut.cutCharacter Cut.cutString
+    Cut.cutMark Cut.cutToken Cut.cutDirective Cut.cutComment Cut.cutOther Cut.cutNext Cut.cutAll Cut.cut Cut.aboveAscii Cut.checkBytes Cut.tokenize
     NameTable.heldNames NameTable.isHeld NameTable.namesAmong NameTable.nameTable Entry.parse Entry.readWith Entry.read Entry.told Entry.outcome
     Lent.padded Lent.flat Lent.tableWords Lent.words Lent.wides Lent.signeds Lent.longEnough Lent.zeroed Lent.leftIn Listing.digitsBefore Listing.decimal
     Listing.signedDecimal Listing.orDash Listing.sizeWord Listing.nameWord Listing.parted Listing.line Listing.letters Listing.kindWord Listing.details

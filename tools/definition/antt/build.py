@@ -22,6 +22,7 @@ class Config:
         self.crates = [(self.file.parent / text["crates"]).resolve()]
         self.module = text["module"]
         self.entries = text["entries"]
+        self.remember = text.get("remember", [])
 
 
 def runtime(*names):
@@ -32,11 +33,17 @@ def program(crates, overrides=True):
     return Program(crates, KIT, overrides)
 
 
+def member(source, name):
+    """What a whole name such as `lib.Dec.eqb` means."""
+    *path, last = name.split(".")
+    return source.module(path).lookup(last)
+
+
 def translate(config):
     """The program's text and the files that it was made from."""
     source = program(config.crates)
     module = source.module(config.module.split("."))
-    compiler = Compiler()
+    compiler = Compiler(member(source, name) for name in config.remember)
     entries = {}
     for name, expression in config.entries.items():
         entries[name] = compiler.add_text(module, expression, f"{config.file} ({name})")

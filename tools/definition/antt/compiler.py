@@ -9,7 +9,10 @@ from .simplify import Simplifier
 
 
 class Compiler:
-    def __init__(self):
+    """`remember` are functions whose results are kept while one record is answered."""
+
+    def __init__(self, remember=()):
+        self.remember = set(remember)
         self.lowered = {}
         self.done = set()
         self.simplifier = Simplifier(self.lowered_of)
@@ -30,7 +33,7 @@ class Compiler:
             self.done.add(function)
             lowered = self.lowered_of(function)
             body = self.simplifier.run(lowered.parameters, lowered.body)
-            self.javascript.add_function(function, lowered.parameters, body)
+            self.javascript.add_function(function, lowered.parameters, body, function in self.remember)
             pending += globals_of(body)
 
     def add_term(self, term):

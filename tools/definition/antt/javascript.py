@@ -50,10 +50,11 @@ class JavaScript:
             self.names[entity] = f"f{len(self.names)}_{mangled(entity.name)}"
         return self.names[entity]
 
-    def add_function(self, entity, parameters, body):
+    def add_function(self, entity, parameters, body, remembers=False):
         name = self.function_name(entity)
         if parameters:
-            self.texts.append(FunctionWriter(self, entity).declared(name, parameters, body))
+            text = FunctionWriter(self, entity).declared("" if remembers else name, parameters, body)
+            self.texts.append(f"const {name} = remembered({text});" if remembers else text)
         else:
             text = FunctionWriter(self, entity, hoists=False).as_function([], body)
             self.texts.append(f"const {name} = once({text});")
