@@ -84,7 +84,7 @@ class Cons {
   constructor(head, tail) {
     this.head = head;
     this.tail = tail;
-    this.elements = null; // all elements in an array, once a far one was asked for
+    this.cells = null; // all cells from this one on in an array, once a far one was asked for
   }
 }
 const NIL = new Cons(undefined, undefined);
@@ -101,30 +101,39 @@ function arrayOf(list) {
   return array;
 }
 
-// Walking costs less than an array where the element is near.
+// Walking costs less than an array where the cell is near.
 const NEAR = 8;
 
-function elementsOf(list) {
-  if (list.elements === null) list.elements = arrayOf(list);
-  return list.elements;
+function cellsOf(list) {
+  if (list.cells === null) {
+    const cells = [];
+    for (let rest = list; rest !== NIL; rest = rest.tail) cells.push(rest);
+    list.cells = cells;
+  }
+  return list.cells;
 }
 
 function length(list) {
-  if (list.elements !== null) return list.elements.length;
+  if (list.cells !== null) return list.cells.length;
   let n = 0;
   for (let rest = list; rest !== NIL; rest = rest.tail) n++;
   return n;
 }
 
-function getD(list, index, otherwise) {
-  if (index < NEAR) {
+function drop(count, list) {
+  if (count < NEAR) {
     let rest = list;
-    for (let i = index; i > 0 && rest !== NIL; i--) rest = rest.tail;
-    return rest === NIL ? otherwise : rest.head;
+    for (let i = count; i > 0 && rest !== NIL; i--) rest = rest.tail;
+    return rest;
   }
-  if (list === NIL) return otherwise;
-  const elements = elementsOf(list);
-  return index < elements.length ? elements[index] : otherwise;
+  if (list === NIL) return NIL;
+  const cells = cellsOf(list);
+  return count < cells.length ? cells[count] : NIL;
+}
+
+function getD(list, index, otherwise) {
+  const cell = drop(index, list);
+  return cell === NIL ? otherwise : cell.head;
 }
 
 // ---- values that are computed when they are first asked for

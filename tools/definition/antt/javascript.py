@@ -95,6 +95,7 @@ class FunctionWriter:
         self.helpers = {}  # local functions -> number of parameters
         self.loop = None  # how a call of the function itself in the last place goes round again
         self.looped = False
+        self.grows = False  # the loop builds a list from its front: `first` and `last` are its cells so far
 
     # ---- names
 
@@ -132,17 +133,27 @@ class FunctionWriter:
         """The parameters of a loop are copied at each round, so that closures keep those of their round."""
         starts = [f"{self.name(p)}i" for p in parameters]
         self.loop = (itself, parameters, starts)
+        self.grows = any(self.is_growth(e) for e in last_places(body))
         self.statement(body, "return")
         if not self.looped:
             names = ", ".join(self.name(p) for p in parameters)
             return f"({names}) {{\n{self.out.text()}\n}}"
         copies = ", ".join(f"{self.name(p)} = {s}" for p, s in zip(parameters, starts))
-        return f"({', '.join(starts)}) {{\n  for (;;) {{\n    const {copies};\n{self.out.text('    ')}\n  }}\n}}"
+        cells = "  let first = NIL, last = NIL;\n" if self.grows else ""
+        return f"({', '.join(starts)}) {{\n{cells}  for (;;) {{\n    const {copies};\n{self.out.text('    ')}\n  }}\n}}"
 
     # ---- statements. `to` is "return" or a variable that is assigned
 
     def finish(self, text, to):
-        self.write(f"return {text};" if to == "return" else f"{to} = {text};")
+        if to != "return":
+            self.write(f"{to} = {text};")
+        elif self.grows:
+            self.write(f"const end = {text};")
+            self.write("if (first === NIL) return end;")
+            self.write("last.tail = end;")
+            self.write("return first;")
+        else:
+            self.write(f"return {text};")
 
     def statement(self, e, to):
         match e:
@@ -156,6 +167,9 @@ class FunctionWriter:
                 self.case(e, to)
             case core.Call() if to == "return" and self.is_loop(e):
                 self.go_round(e.arguments)
+            case core.Construct() if to == "return" and self.is_growth(e):
+                self.grow(e.arguments[0])
+                self.go_round(e.arguments[1].arguments)
             case _:
                 self.finish(self.expression(e), to)
 
@@ -165,6 +179,16 @@ class FunctionWriter:
         itself, parameters, _ = self.loop
         called = e.function.function if isinstance(e.function, core.Global) else getattr(e.function, "variable", None)
         return called is not None and called is itself and len(e.arguments) == len(parameters)
+
+    def is_growth(self, e):
+        """`x ∷ f ys` in the last place of f: the rest of the list is put in its cell when it is known."""
+        is_cons = isinstance(e, core.Construct) and e.constructor.family == "list" and len(e.arguments) == 2
+        return is_cons and isinstance(e.arguments[1], core.Call) and self.is_loop(e.arguments[1])
+
+    def grow(self, head):
+        self.write(f"const cell = new Cons({self.expression(head)}, NIL);")
+        self.write("if (first === NIL) first = cell; else last.tail = cell;")
+        self.write("last = cell;")
 
     def go_round(self, arguments):
         self.looped = True
@@ -427,6 +451,20 @@ def field_of(constructor, value, i):
         case "string":
             return f"{('firstCharacter', 'afterFirst')[i]}({value})"
     return f"{value}.f{i}"
+
+
+def last_places(e):
+    """The terms whose value is that of the whole."""
+    match e:
+        case core.Let():
+            yield from last_places(e.body)
+        case core.LetFunction():
+            yield from last_places(e.rest)
+        case core.Case():
+            for _, _, body in e.branches:
+                yield from last_places(body)
+        case _:
+            yield e
 
 
 def variables(e):

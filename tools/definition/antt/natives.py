@@ -68,6 +68,7 @@ OVERRIDES = {
     ("lib.Dec", "ltb"): Primitive("ltb", 2),
     ("lib.ListN", "length"): Primitive("length", 1),
     ("lib.ListN", "getD"): Primitive("getD", 3),
+    ("lib.ListN", "drop"): Primitive("drop", 2),
     ("mathlib.Core.Bool", "_&&_"): Primitive("and", 2),
     ("mathlib.Core.Bool", "_||_"): Primitive("or", 2),
     ("mathlib.Core.Bool", "not"): Primitive("not", 1),

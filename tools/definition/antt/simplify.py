@@ -35,12 +35,23 @@ class Simplifier:
         return settle_lets(share(parameters, self.simplify(body)))
 
     def simplify(self, e):
+        if isinstance(e, core.Global):
+            return self.named_atom(e)
         e = core.rebuild(e, self.simplify)
         if isinstance(e, core.Call):
             return self.call(e.function, e.arguments)
         if isinstance(e, core.Construct) and len(e.arguments) < e.constructor.arity:
             missing = e.constructor.arity - len(e.arguments)
             return as_function(missing, e.arguments, lambda all_: core.Construct(e.constructor, all_))
+        return e
+
+    def named_atom(self, e):
+        """A name for a number is that number."""
+        lowered = self.lowered_of(e.function)
+        if lowered.arity == 0 and size(lowered.body) <= 3:
+            value = self.simplify(lowered.body)
+            if is_atom(value):
+                return value
         return e
 
     # ---- calls
@@ -50,7 +61,7 @@ class Simplifier:
         if isinstance(function, core.Lam):
             return self.beta(function, arguments)
         if isinstance(function, core.Prim):
-            return self.branching(function.primitive.name, arguments) or core.Call(function, arguments)
+            return self.known_primitive(function.primitive.name, arguments) or core.Call(function, arguments)
         if isinstance(function, core.Global):
             return self.call_of_global(function, arguments)
         return plain_call(function, arguments)
@@ -72,10 +83,12 @@ class Simplifier:
             body = let_value(parameter, argument, body)
         return self.call(body, arguments[count:]) if arguments[count:] else body
 
-    def branching(self, name, arguments):
-        """The tests of Bool as branches: what is not needed is not computed."""
+    def known_primitive(self, name, arguments):
+        """The tests of Bool as branches: what is not needed is not computed. A character's code is a number."""
         true, false = core.Construct(natives.TRUE, []), core.Construct(natives.FALSE, [])
         match name, arguments:
+            case "code", [core.Text(value=text)]:
+                return core.Nat(ord(text[0]))
             case "and", [a, b]:
                 return if_then_else(a, b, false)
             case "or", [a, b]:
