@@ -87,13 +87,25 @@ function answerTo(model, entry, text) {
   return Buffer.from(arrayOf(apply2(entry, model, listOf(text))));
 }
 
+// Records that take this many milliseconds are told on standard error.
+const SLOW = Number(process.argv[2] ?? Infinity);
+
+function timed(record, header, answer) {
+  const start = process.hrtime.bigint();
+  const result = answer();
+  const took = Number(process.hrtime.bigint() - start) / 1e6;
+  if (took >= SLOW) console.error(`record ${record} (${header}): ${took.toFixed(0)} ms`);
+  return result;
+}
+
 function answerBatch() {
   const input = new Input();
+  let record = 0;
   for (let line = input.line(); line !== null; line = input.line()) {
     const { model, entry, length } = readHeader(line);
     const text = input.counted(length);
     if (input.counted(1)[0] !== LINE_FEED) throw new Error("a record's text is not followed by a line feed");
-    const answer = answerTo(model, entry, text);
+    const answer = timed(record++, line, () => answerTo(model, entry, text));
     forget();
     writeAll(Buffer.concat([Buffer.from(`answer ${answer.length}\n`), answer, Buffer.from("\n")]));
   }

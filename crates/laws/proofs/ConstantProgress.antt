@@ -32,13 +32,13 @@ module _ (ts : Tokens) (known : ℕ → Option ℤ) (next : Readers) (ok : Reade
   primary-past : (at : ℕ) → ReadsPast at (primary ts known next at)
   unfolding primary
   primary-past at = bool! (eqb (kindAt ts at) number) (then! _ _ any! λ v h. got! (omega arith))
-    (bool! (isName (kindAt ts at)) (option! (known (numberAt ts at)) (λ v e. got! (omega arith)) no!) no!)
+      (bool! (isName (kindAt ts at)) (option! (known (numberAt ts at)) (λ v e. got! (omega arith)) no!) no!)
 
   operand-past : (at : ℕ) → ReadsPast at (operand₁ ts known next at)
   unfolding operand₁
   operand-past at = bool! (isPrefix (kindAt ts at))
-    (then! _ _ (ok .operand (at + 1)) λ r h. then! _ _ any! λ v k. got! (omega arith))
-    (bool! (eqb (kindAt ts at) openParen)
+      (then! _ _ (ok .operand (at + 1)) λ r h. then! _ _ any! λ v k. got! (omega arith))
+      (bool! (eqb (kindAt ts at) openParen)
       (then! _ _ (ok .condition (at + 1)) λ r h. then! _ _ (need-on ts closeParen (r .1)) λ a e. got! (omega arith))
       (primary-past at))
 
@@ -46,9 +46,9 @@ module _ (ts : Tokens) (known : ℕ → Option ℤ) (next : Readers) (ok : Reade
   unfolding operatorsFrom
   operators-on zero low x at = got! (le-refl _)
   operators-on (suc f) low x at = bool! (ltb low (precedence (kindAt ts at)))
-    (then! _ _ (ok .chain (precedence (kindAt ts at)) (at + 1)) λ r h. then! _ _ any! λ v k.
+      (then! _ _ (ok .chain (precedence (kindAt ts at)) (at + 1)) λ r h. then! _ _ any! λ v k.
       weaker! (operators-on f low v (r .1)) (λ y p. omega arith))
-    (got! (le-refl _))
+      (got! (le-refl _))
 
   chain-past : (low at : ℕ) → ReadsPast at (chain₁ ts known next low at)
   unfolding chain₁
@@ -57,8 +57,8 @@ module _ (ts : Tokens) (known : ℕ → Option ℤ) (next : Readers) (ok : Reade
   condition-past : (at : ℕ) → ReadsPast at (condition₁ ts known next at)
   unfolding condition₁
   condition-past at = then! _ _ (chain-past noPrecedence at) λ c h. bool! (eqb (kindAt ts (c .1)) question)
-    (then! _ _ (ok .condition (c .1 + 1)) λ x p. then! _ _ (need-on ts colon (x .1)) λ a e. then! _ _ (ok .condition a) λ y q. got! (omega arith))
-    (got! h)
+      (then! _ _ (ok .condition (c .1 + 1)) λ x p. then! _ _ (need-on ts colon (x .1)) λ a e. then! _ _ (ok .condition a) λ y q. got! (omega arith))
+      (got! h)
 
 -- at every level
 pub level-past : (ts : Tokens) (known : ℕ → Option ℤ) (room : ℕ) → ReadersPast (level ts known room)

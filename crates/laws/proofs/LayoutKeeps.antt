@@ -52,16 +52,17 @@ module _ (m : Model) (t : Table) (union : Bool) where
     unfolding placedAll
     all-same l nil = got! (record { each = nil; long = refl })
     all-same l (cons {e} h hs) = bool! (eqb (e .row) mark)
-      (then! _ _ (placed-moves _ e l) λ p k. then! _ _ (all-same (p .1) hs) λ r j. got! (record {
-        each = cons (record { carries = rw (k .row) (h .carries); type = rw (k .type) (h .type) }) (j .each);
-        long = let z = j .long in omega arith }))
-      (then! _ _ (all-same l hs) λ r j. got! (record { each = cons h (j .each); long = let z = j .long in omega arith }))
+        (then! _ _ (placed-moves _ e l) λ p k. then! _ _ (all-same (p .1) hs) λ r j. got! (record {
+          each = cons (record { carries = rw (k .row) (h .carries); type = rw (k .type) (h .type) }) (j .each);
+          long = let z = j .long in omega arith;
+        }))
+        (then! _ _ (all-same l hs) λ r j. got! (record { each = cons h (j .each); long = let z = j .long in omega arith }))
 
   pub layout-keeps : (n : ℕ) (os : List ℕ) (first at : ℕ) → first ≤ length (t .members) → Each (MemberIn n os) 0 (t .members)
-    → Every (λ (x : ℕ × List Member). Each (MemberIn n os) 0 (x .1) × (length (x .1) ≡ length (t .members))) (layout m t union first at)
+      → Every (λ (x : ℕ × List Member). Each (MemberIn n os) 0 (x .1) × (length (x .1) ≡ length (t .members))) (layout m t union first at)
   unfolding layout
   layout-keeps n os first at p h = then! _ _ (all-same n os (markOf first) _ (each-drop h first)) λ r k. then! _ _ any! λ s j.
-    let a : length (take first (t .members)) ≡ first = length-take first (t .members) ∙ omega arith in
-    let b : 0 + length (take first (t .members)) ≡ 0 + first = omega arith in
-    let c = k .long in
-    got! (each-append (each-take h first) (rw b (k .each)), omega (arith, length-append (take first (t .members)) (r .0), length-drop first (t .members)))
+      let a : length (take first (t .members)) ≡ first = length-take first (t .members) ∙ omega arith in
+      let b : 0 + length (take first (t .members)) ≡ 0 + first = omega arith in
+      let c = k .long in
+      got! (each-append (each-take h first) (rw b (k .each)), omega (arith, length-append (take first (t .members)) (r .0), length-drop first (t .members)))

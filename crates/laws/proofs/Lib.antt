@@ -9,3 +9,11 @@ pub mod Each
 pub mod Scalars
 pub mod Sound
 pub mod LayoutKeeps
+pub mod SoundTable
+pub mod SoundReader
+pub mod Inside
+pub mod Left
+pub mod LexerProgress
+pub mod Spaced
+pub mod LexerRounds
+pub mod Call

@@ -69,8 +69,10 @@ module _ (ts : Tokens) where
   qualifiersFrom-on (suc f) q s = go (isQualifierWord (kindAt ts (s .at))) (stands ts atomicWord s) (qualifiersFrom-on f _ (skip s)) (qualifiersFrom-on f q (skip s))
     where
       go : (b c : Bool) → s .at + 1 ≤ qualifiersFrom ts f (withQualifier (kindAt ts (s .at)) q) (skip s) .1 .at → s .at + 1 ≤ qualifiersFrom ts f q (skip s) .1 .at
-        → s .at ≤ (elim b as (λ z. Qualifiers × State) [ true ↦ qualifiersFrom ts f (withQualifier (kindAt ts (s .at)) q) (skip s)
-            | false ↦ elim c as (λ z. Qualifiers × State) [ true ↦ qualifiersFrom ts f q (skip s) | false ↦ (q, s) ] ]) .1 .at
+          → s .at ≤ (elim b as (λ z. Qualifiers × State) [
+            | true ↦ qualifiersFrom ts f (withQualifier (kindAt ts (s .at)) q) (skip s)
+            | false ↦ elim c as (λ z. Qualifiers × State) [ true ↦ qualifiersFrom ts f q (skip s) | false ↦ (q, s) ]
+          ]) .1 .at
       go true c h k = omega arith
       go false true h k = omega arith
       go false false h k = le-refl _
@@ -83,9 +85,9 @@ module _ (ts : Tokens) where
   unfolding starsFrom
   starsFrom-on zero used qs s = got! (le-refl _)
   starsFrom-on (suc f) used qs s = bool! (stands ts star s)
-    (then! _ _ (oneMoreStep-stays _ (skip s)) λ s₁ e. let k = qualifiersFrom-on (suc (left ts (s₁ .at))) unqualified s₁ in let j : s₁ .at ≡ s .at + 1 = rw e in
+      (then! _ _ (oneMoreStep-stays _ (skip s)) λ s₁ e. let k = qualifiersFrom-on (suc (left ts (s₁ .at))) unqualified s₁ in let j : s₁ .at ≡ s .at + 1 = rw e in
       on-from (starsFrom-on f used _ (qualifiersHere ts s₁ .1)) (omega arith))
-    (got! (le-refl _))
+      (got! (le-refl _))
 
   pub boundWords-on : (f : ℕ) (s : State) → s .at ≤ boundWords ts f s .at
   unfolding boundWords
@@ -102,7 +104,7 @@ module _ (ts : Tokens) where
   skipInitialiser-on (suc f) depth s = go (stands ts end s || ((stands ts comma s || stands ts semicolon s) && leZ depth (pos 0))) (skipInitialiser-on f _ (skip s))
     where
       go : (b : Bool) → s .at + 1 ≤ skipInitialiser ts f (nested (kindAt ts (s .at)) depth) (skip s) .at
-        → s .at ≤ (elim b as (λ z. State) [ true ↦ s | false ↦ skipInitialiser ts f (nested (kindAt ts (s .at)) depth) (skip s) ]) .at
+          → s .at ≤ (elim b as (λ z. State) [ true ↦ s | false ↦ skipInitialiser ts f (nested (kindAt ts (s .at)) depth) (skip s) ]) .at
       go true h = le-refl _
       go false h = omega arith
 
@@ -111,7 +113,7 @@ module _ (ts : Tokens) where
   initialiser-on s = go (stands ts equals s) (skipInitialiser-on (suc (left ts (s .at))) (pos 0) (skip s))
     where
       go : (b : Bool) → s .at + 1 ≤ skipInitialiser ts (suc (left ts (s .at))) (pos 0) (skip s) .at
-        → s .at ≤ (elim b as (λ z. State) [ true ↦ skipInitialiser ts (suc (left ts (s .at))) (pos 0) (skip s) | false ↦ s ]) .at
+          → s .at ≤ (elim b as (λ z. State) [ true ↦ skipInitialiser ts (suc (left ts (s .at))) (pos 0) (skip s) | false ↦ s ]) .at
       go true h = omega arith
       go false h = le-refl _
 
@@ -130,15 +132,15 @@ module _ (ts : Tokens) (m : Model) (next : Levels) (ok : LevelsOn next) where
   unfolding specifiersFrom
   specifiersFrom-on zero p s = got! (le-refl _)
   specifiersFrom-on (suc f) p s =
-    bool! (isWord (kindAt ts (s .at)))
-    (bool! (isStorageWord (kindAt ts (s .at))) (on-from (specifiersFrom-on f _ (skip s)) (omega arith))
-    (bool! (isQualifierWord (kindAt ts (s .at))) (on-from (specifiersFrom-on f _ (skip s)) (omega arith))
-    (bool! (isIgnoredWord (kindAt ts (s .at))) (on-from (specifiersFrom-on f _ (skip s)) (omega arith))
-    (bool! (isTypeWord (kindAt ts (s .at))) (bool! (isSome (p .base)) no! (on-from (specifiersFrom-on f _ (skip s)) (omega arith)))
-    (bool! (isTagWord (kindAt ts (s .at)))
+      bool! (isWord (kindAt ts (s .at)))
+      (bool! (isStorageWord (kindAt ts (s .at))) (on-from (specifiersFrom-on f _ (skip s)) (omega arith))
+      (bool! (isQualifierWord (kindAt ts (s .at))) (on-from (specifiersFrom-on f _ (skip s)) (omega arith))
+      (bool! (isIgnoredWord (kindAt ts (s .at))) (on-from (specifiersFrom-on f _ (skip s)) (omega arith))
+      (bool! (isTypeWord (kindAt ts (s .at))) (bool! (isSome (p .base)) no! (on-from (specifiersFrom-on f _ (skip s)) (omega arith)))
+      (bool! (isTagWord (kindAt ts (s .at)))
       (bool! (namesType p) no! (then! _ _ (taggedType-past (kindAt ts (s .at)) (skip s)) λ b h. on-from (specifiersFrom-on f _ (b .1)) (omega arith)))
       (bool! (namesType p) (got! (le-refl _)) (then! _ _ (namedType-stays s ts m) λ b h. on-from (specifiersFrom-on f _ (skip (b .1))) (omega arith))))))))
-    (bool! (eqb (kindAt ts (s .at)) attribute) no! (got! (le-refl _)))
+      (bool! (eqb (kindAt ts (s .at)) attribute) no! (got! (le-refl _)))
 
   pub specifiers-on : (s : State) → On (s .at) (specifiers ts m next s)
   unfolding specifiers
@@ -151,13 +153,13 @@ module _ (ts : Tokens) (m : Model) (next : Levels) (ok : LevelsOn next) where
   pub arrayBound-past : (s : State) → Past (s .at) (arrayBound ts m next s)
   unfolding arrayBound
   arrayBound-past s₀ = let s = boundWords ts (suc (left ts (s₀ .at))) s₀ in let g : s₀ .at ≤ s .at = boundWords-on ts (suc (left ts (s₀ .at))) s₀ in
-    bool! (stands ts closeBracket s) (got! (omega arith))
-    (bool! (stands ts star s) (then! _ _ any! λ s′ e. no!) (weaker! (constantBound-past s) (λ x h. omega arith)))
+      bool! (stands ts closeBracket s) (got! (omega arith))
+      (bool! (stands ts star s) (then! _ _ any! λ s′ e. no!) (weaker! (constantBound-past s) (λ x h. omega arith)))
 
   pub parameter-on : (s : State) → Every (λ (x : ℕ × ℕ × State). s .at ≤ x .2 .at) (parameter ts m next s)
   unfolding parameter
   parameter-on s = then! _ _ (specifiers-on s) λ p h. then! _ _ (baseType-stays (p .1) m (p .0) (s .at)) λ b e.
-    then! _ _ (ok .declarator 0 (b .1)) λ d g. then! _ _ (apply-stays (d .0 .steps) (b .0) (d .1)) λ r k. got! (omega arith)
+      then! _ _ (ok .declarator 0 (b .1)) λ d g. then! _ _ (apply-stays (d .0 .steps) (b .0) (d .1)) λ r k. got! (omega arith)
 
   pub parametersEnd-past : (v : Bool) (first n : ℕ) (s : State) → Past (s .at) (parametersEnd ts m next v first n s)
   unfolding parametersEnd
@@ -167,11 +169,11 @@ module _ (ts : Tokens) (m : Model) (next : Levels) (ok : LevelsOn next) where
   unfolding parametersFrom
   parametersFrom-past zero first n s = parametersEnd-past false first n s
   parametersFrom-past (suc f) first n s = bool! (stands ts ellipsis s) (weaker! (parametersEnd-past true first n (skip s)) (λ x h. omega arith))
-    (then! _ _ (parameter-on s) λ p h. bool! (isVoidList ts n (p .1) (p .0) (p .2))
+      (then! _ _ (parameter-on s) λ p h. bool! (isVoidList ts n (p .1) (p .0) (p .2))
       (weaker! (parametersEnd-past false first n (p .2)) (λ x k. omega arith))
       (then! _ _ (adjusted-stays (p .2) (s .at) (p .0)) λ a e. then! _ _ (pushParameter-stays (a .1) _) λ x q.
-        bool! (stands ts comma (x .1)) (weaker! (parametersFrom-past f first (suc n) (skip (x .1))) (λ y k. omega arith))
-          (weaker! (parametersEnd-past false first (suc n) (x .1)) (λ y k. omega arith))))
+      bool! (stands ts comma (x .1)) (weaker! (parametersFrom-past f first (suc n) (skip (x .1))) (λ y k. omega arith))
+      (weaker! (parametersEnd-past false first (suc n) (x .1)) (λ y k. omega arith))))
 
   pub parameters-past : (s : State) → Past (s .at) (parameters ts m next s)
   unfolding parameters
@@ -181,13 +183,13 @@ module _ (ts : Tokens) (m : Model) (next : Levels) (ok : LevelsOn next) where
   unfolding suffixesFrom
   suffixesFrom-on zero used d s = got! (le-refl _)
   suffixesFrom-on (suc f) used d s =
-    bool! (stands ts openBracket s)
-    (then! _ _ (oneMoreStep-stays ts (used + length (d .steps)) (skip s)) λ s₁ e. let j : s₁ .at ≡ s .at + 1 = rw e in
+      bool! (stands ts openBracket s)
+      (then! _ _ (oneMoreStep-stays ts (used + length (d .steps)) (skip s)) λ s₁ e. let j : s₁ .at ≡ s .at + 1 = rw e in
       then! _ _ (arrayBound-past s₁) λ b h. on-from (suffixesFrom-on f used _ (b .1)) (omega arith))
-    (bool! (stands ts openParen s)
-    (then! _ _ (oneMoreStep-stays ts (used + length (d .steps)) (skip s)) λ s₁ e. let j : s₁ .at ≡ s .at + 1 = rw e in
+      (bool! (stands ts openParen s)
+      (then! _ _ (oneMoreStep-stays ts (used + length (d .steps)) (skip s)) λ s₁ e. let j : s₁ .at ≡ s .at + 1 = rw e in
       then! _ _ (parameters-past s₁) λ p h. on-from (suffixesFrom-on f used _ (p .1)) (omega arith))
-    (got! (le-refl _)))
+      (got! (le-refl _)))
 
   pub suffixes-on : (used : ℕ) (d : Declarator) (s : State) → On (s .at) (suffixes ts m next used d s)
   unfolding suffixes
@@ -196,14 +198,14 @@ module _ (ts : Tokens) (m : Model) (next : Levels) (ok : LevelsOn next) where
   pub direct-on : (used : ℕ) (s : State) → On (s .at) (direct₁ ts m next used s)
   unfolding direct₁
   direct-on used s = bool! (isName (kindAt ts (s .at))) (on-from (suffixes-on used _ (skip s)) (omega arith))
-    (bool! (opensDeclarator ts m s)
-    (then! _ _ (ok .declarator used (skip s)) λ d h. then! _ _ (needed-past ts closeParen (d .1)) λ s′ e. on-from (suffixes-on used (d .0) s′) (omega arith))
-    (suffixes-on used unnamed s))
+      (bool! (opensDeclarator ts m s)
+      (then! _ _ (ok .declarator used (skip s)) λ d h. then! _ _ (needed-past ts closeParen (d .1)) λ s′ e. on-from (suffixes-on used (d .0) s′) (omega arith))
+      (suffixes-on used unnamed s))
 
   pub declarator-on : (used : ℕ) (s : State) → On (s .at) (declarator₁ ts m next used s)
   unfolding declarator₁
   declarator-on used s = then! _ _ (starsFrom-on ts (suc (left ts (s .at))) used [] s) λ r h.
-    then! _ _ (ok .direct (used + length (r .0)) (r .1)) λ d k. got! (omega arith)
+      then! _ _ (ok .direct (used + length (r .0)) (r .1)) λ d k. got! (omega arith)
 
   -- ---- bodies
 
@@ -214,15 +216,15 @@ module _ (ts : Tokens) (m : Model) (next : Levels) (ok : LevelsOn next) where
   pub memberDeclarator-on : (first b : ℕ) (s : State) → MovesOn (s .at) (memberDeclarator ts m next first b s)
   unfolding memberDeclarator
   memberDeclarator-on first b s = bool! (stands ts colon s)
-    (then! _ _ (bitWidth-on (s .at) s) λ w h. then! _ _ (pushMember-stays (w .1) _) λ e k. got! (omega arith))
-    (then! _ _ (ok .declarator 0 s) λ d h. then! _ _ (apply-stays (d .0 .steps) b (d .1)) λ r k. then! _ _ (bitWidth-on (s .at) (r .1)) λ w g.
+      (then! _ _ (bitWidth-on (s .at) s) λ w h. then! _ _ (pushMember-stays (w .1) _) λ e k. got! (omega arith))
+      (then! _ _ (ok .declarator 0 s) λ d h. then! _ _ (apply-stays (d .0 .steps) b (d .1)) λ r k. then! _ _ (bitWidth-on (s .at) (r .1)) λ w g.
       bool! (eqb (d .0 .name) noName) no! (then! _ _ (pushMember-stays (w .1) _) λ e l. got! (omega arith)))
 
   pub memberDeclarators-past : (f first b : ℕ) (s : State) → MovesPast (s .at) (memberDeclarators ts m next f first b s)
   unfolding memberDeclarators
   memberDeclarators-past zero first b s = no!
   memberDeclarators-past (suc f) first b s = then! _ _ (memberDeclarator-on first b s) λ s₁ h. bool! (stands ts comma s₁)
-    (moves-past-from (memberDeclarators-past f first b (skip s₁)) (omega arith)) (weaker! (needed-past ts semicolon s₁) (λ x k. omega arith))
+      (moves-past-from (memberDeclarators-past f first b (skip s₁)) (omega arith)) (weaker! (needed-past ts semicolon s₁) (λ x k. omega arith))
 
   pub anonymousMember-on : (first b at : ℕ) (s : State) → MovesOn (s .at) (anonymousMember ts m next first b at s)
   unfolding anonymousMember
@@ -231,17 +233,17 @@ module _ (ts : Tokens) (m : Model) (next : Levels) (ok : LevelsOn next) where
   pub memberDeclaration-past : (first : ℕ) (s : State) → MovesPast (s .at) (memberDeclaration ts m next first s)
   unfolding memberDeclaration
   memberDeclaration-past first s = then! _ _ (specifiers-on s) λ p h. bool! (eqb (storageNumber (p .0 .storage)) (storageNumber noStorage))
-    (then! _ _ (baseType-stays (p .1) m (p .0) (s .at)) λ b e. bool! (stands ts semicolon (b .1))
+      (then! _ _ (baseType-stays (p .1) m (p .0) (s .at)) λ b e. bool! (stands ts semicolon (b .1))
       (weaker! (anonymousMember-on first (b .0) (s .at) (skip (b .1))) (λ x k. omega arith))
       (moves-past-from (memberDeclarators-past (suc (left ts (s .at))) first (b .0) (b .1)) (omega arith)))
-    no!
+      no!
 
   pub membersFrom-past : (f first : ℕ) (s : State) → MovesPast (s .at) (membersFrom ts m next f first s)
   unfolding membersFrom
   membersFrom-past zero first s = no!
   membersFrom-past (suc f) first s = bool! (stands ts closeBrace s) (got! (omega arith)) (bool! (stands ts end s) no!
-    (bool! (stands ts semicolon s) (moves-past-from (membersFrom-past f first (skip s)) (omega arith))
-    (then! _ _ (memberDeclaration-past first s) λ s₁ h. moves-past-from (membersFrom-past f first s₁) (omega arith))))
+      (bool! (stands ts semicolon s) (moves-past-from (membersFrom-past f first (skip s)) (omega arith))
+      (then! _ _ (memberDeclaration-past first s) λ s₁ h. moves-past-from (membersFrom-past f first s₁) (omega arith))))
 
   pub body-past : (union : Bool) (at : ℕ) (s : State) → Past (s .at) (body ts m next union at s)
   unfolding body
@@ -250,10 +252,10 @@ module _ (ts : Tokens) (m : Model) (next : Levels) (ok : LevelsOn next) where
   pub composite-past : (union : Bool) (s : State) → Past (s .at) (composite₁ ts m next union s)
   unfolding composite₁ taggedComposite untaggedComposite defineBody
   composite-past union s = bool! (isName (kindAt ts (s .at)))
-    (then! _ _ (tagRow-stays (skip s) union _) λ r e. bool! (stands ts openBrace (r .1))
+      (then! _ _ (tagRow-stays (skip s) union _) λ r e. bool! (stands ts openBrace (r .1))
       (then! _ _ (body-past union (s .at) (skip (r .1))) λ b h. got! (omega arith))
       (got! (omega arith)))
-    (bool! (stands ts openBrace s)
+      (bool! (stands ts openBrace s)
       (then! _ _ (body-past union (s .at) (skip s)) λ b h. weaker! (addBody-stays (b .1) union (b .0)) (λ x k. omega arith))
       no!)
 
@@ -266,28 +268,28 @@ module _ (ts : Tokens) (m : Model) (next : Levels) (ok : LevelsOn next) where
   pub enumerator-past : (first : ℕ) (value : ℤ) (s : State) → Past (s .at) (enumerator ts m next first value s)
   unfolding enumerator
   enumerator-past first value s = bool! (isName (kindAt ts (s .at)))
-    (then! _ _ (enumeratorValue-on value (skip s)) λ v h. then! _ _ any! λ x k. then! _ _ (pushValue-stays (v .1) _) λ e l. got! (omega arith))
-    no!
+      (then! _ _ (enumeratorValue-on value (skip s)) λ v h. then! _ _ any! λ x k. then! _ _ (pushValue-stays (v .1) _) λ e l. got! (omega arith))
+      no!
 
   pub enumeratorsFrom-past : (f first : ℕ) (value : ℤ) (s : State) → MovesPast (s .at) (enumeratorsFrom ts m next f first value s)
   unfolding enumeratorsFrom
   enumeratorsFrom-past zero first value s = no!
   enumeratorsFrom-past (suc f) first value s = bool! (stands ts closeBrace s) (got! (omega arith))
-    (then! _ _ (enumerator-past first value s) λ e h. bool! (stands ts comma (e .1))
+      (then! _ _ (enumerator-past first value s) λ e h. bool! (stands ts comma (e .1))
       (moves-past-from (enumeratorsFrom-past f first _ (skip (e .1))) (omega arith))
       (weaker! (needed-past ts closeBrace (e .1)) (λ x k. omega arith)))
 
   pub enumBody-past : (w : ℕ) (s : State) → Past (s .at) (enumBody ts m next w s)
   unfolding enumBody
   enumBody-past w s = then! _ _ (enumeratorsFrom-past (suc (left ts (s .at))) (length (s .table .values)) (pos 0) s) λ s₁ h.
-    weaker! (closeEnum-stays s₁ w _ _) (λ x k. omega arith)
+      weaker! (closeEnum-stays s₁ w _ _) (λ x k. omega arith)
 
   pub enumeration-past : (s : State) → Past (s .at) (enumeration₁ ts m next s)
   unfolding enumeration₁ afterTag
   enumeration-past s = bool! (isName (kindAt ts (s .at)))
-    (bool! (stands ts colon (skip s)) no! (bool! (stands ts openBrace (skip s)) (weaker! (enumBody-past _ (skip (skip s))) (λ x h. omega arith))
+      (bool! (stands ts colon (skip s)) no! (bool! (stands ts openBrace (skip s)) (weaker! (enumBody-past _ (skip (skip s))) (λ x h. omega arith))
       (weaker! (bareEnum-stays (skip s) m _ (s .at)) (λ x h. omega arith))))
-    (bool! (stands ts colon s) no! (bool! (stands ts openBrace s) (weaker! (enumBody-past noName (skip s)) (λ x h. omega arith)) (bareEnum-alone s m (s .at))))
+      (bool! (stands ts colon s) no! (bool! (stands ts openBrace s) (weaker! (enumBody-past noName (skip s)) (λ x h. omega arith)) (bareEnum-alone s m (s .at))))
 
 -- ---- at every level
 
@@ -308,8 +310,8 @@ module _ (ts : Tokens) (m : Model) where
   pub initDeclarator-on : (c : Storage) (b : ℕ) (s : State) → MovesOn (s .at) (initDeclarator ts m c b s)
   unfolding initDeclarator
   initDeclarator-on c b s = then! _ _ (levels-on ts m (maxDepth - 1) .declarator 0 s) λ d h. then! _ _ (apply-stays (d .0 .steps) b (d .1)) λ r k.
-    bool! (eqb (d .0 .name) noName) no! (let i = initialiser-on ts (r .1) in
-    then! _ _ (declaredRow-stays (initialiser ts (r .1)) c _ _ _) λ n e. weaker! (declare-stays (n .1) c _ _) (λ x g. omega arith))
+      bool! (eqb (d .0 .name) noName) no! (let i = initialiser-on ts (r .1) in
+      then! _ _ (declaredRow-stays (initialiser ts (r .1)) c _ _ _) λ n e. weaker! (declare-stays (n .1) c _ _) (λ x g. omega arith))
 
   pub initDeclarators-on : (f : ℕ) (c : Storage) (b : ℕ) (s : State) → MovesOn (s .at) (initDeclarators ts m f c b s)
   unfolding initDeclarators
@@ -319,7 +321,7 @@ module _ (ts : Tokens) (m : Model) where
   pub declaration-on : (s : State) → MovesOn (s .at) (declaration ts m s)
   unfolding declaration
   declaration-on s = then! _ _ (specifiers-on ts m _ (levels-on ts m (maxDepth - 1)) s) λ p h. then! _ _ (baseType-stays (p .1) m (p .0) (s .at)) λ b e.
-    bool! (stands ts semicolon (b .1) || stands ts end (b .1))
+      bool! (stands ts semicolon (b .1) || stands ts end (b .1))
       (bool! (isTypedef (p .0 .storage)) no! (weaker! (declare-stays (b .1) _ _ _) (λ x k. omega arith)))
       (moves-from (initDeclarators-on (suc (left ts (s .at))) (p .0 .storage) (b .0) (b .1)) (omega arith))
 
@@ -331,4 +333,4 @@ module _ (ts : Tokens) (m : Model) where
   unfolding declarationsFrom
   declarationsFrom-on zero s = got! (le-refl _)
   declarationsFrom-on (suc f) s = bool! (stands ts end s) (got! (le-refl _)) (bool! (stands ts semicolon s) (moves-from (declarationsFrom-on f (skip s)) (omega arith))
-    (then! _ _ (declaration-on s) λ s₁ h. then! _ _ (separated-on s₁) λ s₂ k. moves-from (declarationsFrom-on f s₂) (omega arith)))
+      (then! _ _ (declaration-on s) λ s₁ h. then! _ _ (separated-on s₁) λ s₂ k. moves-from (declarationsFrom-on f s₂) (omega arith)))

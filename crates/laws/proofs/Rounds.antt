@@ -34,7 +34,7 @@ use Rattle.laws.proofs.Every.{got!, no!, bool!, test!, any! }
 use Rattle.laws.proofs.ConstantProgress.{ReadersPast}
 use Rattle.laws.proofs.TableProgress.{namedType-stays, pushParameter-stays, adjusted-stays}
 use Rattle.laws.proofs.Progress.{LevelsOn, qualifiersFrom-on, oneMoreStep-stays, taggedType-past, arrayBound-past, parameters-past, parameter-on, memberDeclarator-on, memberDeclaration-past, enumerator-past, initDeclarator-on, declaration-on, separated-on}
-use Rattle.laws.proofs.Same.{same-bool, chosen! , same-then, there, enough}
+use Rattle.laws.proofs.Same.{same-bool, chosen!, same-then, there, enough}
 
 -- ---- the end is in no class of tokens
 
@@ -64,9 +64,9 @@ module _ (ts : Tokens) (known : ℕ → Option ℤ) (next : Readers) (ok : Reade
   operators-agree zero g low x at p q = absurd (omega arith)
   operators-agree (suc f) zero low x at p q = absurd (omega arith)
   operators-agree (suc f) (suc g) low x at p q = same-bool (ltb low (precedence (kindAt ts at)))
-    (λ e. let l = there ts (λ k. ltb low (precedence k)) at (no-operator low) e in
+      (λ e. let l = there ts (λ k. ltb low (precedence k)) at (no-operator low) e in
       same-then _ _ _ (ok .chain _ (at + 1)) λ r h. same-then _ _ _ any! λ v k. operators-agree f g low v (r .1) (omega arith) (omega arith))
-    (λ e. refl)
+      (λ e. refl)
 
   pub operators-enough : (low : ℕ) (x : ℤ) (at : ℕ) → Enough (λ f. operatorsFrom ts known next f low x at) (suc (left ts at))
   operators-enough low x at = enough (λ f g. operators-agree f g low x at)
@@ -87,8 +87,8 @@ module _ (ts : Tokens) where
   qualifiers-agree zero g x s p q = absurd (omega arith)
   qualifiers-agree (suc f) zero x s p q = absurd (omega arith)
   qualifiers-agree (suc f) (suc g) x s p q = same-bool (isQualifierWord (kindAt ts (s .at)))
-    (λ e. let l = there ts isQualifierWord (s .at) no-qualifier e in qualifiers-agree f g _ (skip s) (omega arith) (omega arith))
-    (λ u. same-bool (stands ts atomicWord s) (λ e. let l = here! atomicWord s refl e in qualifiers-agree f g x (skip s) (omega arith) (omega arith)) (λ e. refl))
+      (λ e. let l = there ts isQualifierWord (s .at) no-qualifier e in qualifiers-agree f g _ (skip s) (omega arith) (omega arith))
+      (λ u. same-bool (stands ts atomicWord s) (λ e. let l = here! atomicWord s refl e in qualifiers-agree f g x (skip s) (omega arith) (omega arith)) (λ e. refl))
 
   pub qualifiers-enough : (q : Qualifiers) (s : State) → Enough (λ f. qualifiersFrom ts f q s) (suc (left ts (s .at)))
   qualifiers-enough x s = enough (λ f g. qualifiers-agree f g x s)
@@ -98,10 +98,10 @@ module _ (ts : Tokens) where
   stars-agree zero g used qs s p q = absurd (omega arith)
   stars-agree (suc f) zero used qs s p q = absurd (omega arith)
   stars-agree (suc f) (suc g) used qs s p q = same-bool (stands ts star s)
-    (λ e. let l = here! star s refl e in same-then _ _ _ (oneMoreStep-stays ts _ (skip s)) λ s₁ d.
+      (λ e. let l = here! star s refl e in same-then _ _ _ (oneMoreStep-stays ts _ (skip s)) λ s₁ d.
       let k = qualifiersFrom-on ts (suc (left ts (s₁ .at))) unqualified s₁ in let j : s₁ .at ≡ s .at + 1 = rw d in
       stars-agree f g used _ (qualifiersHere ts s₁ .1) (omega arith) (omega arith))
-    (λ e. refl)
+      (λ e. refl)
 
   pub stars-enough : (used : ℕ) (qs : List Qualifiers) (s : State) → Enough (λ f. starsFrom ts f used qs s) (suc (left ts (s .at)))
   stars-enough used qs s = enough (λ f g. stars-agree f g used qs s)
@@ -111,8 +111,8 @@ module _ (ts : Tokens) where
   bound-words-agree zero g s p q = absurd (omega arith)
   bound-words-agree (suc f) zero s p q = absurd (omega arith)
   bound-words-agree (suc f) (suc g) s p q = same-bool (stands ts staticWord s || (isQualifierWord (kindAt ts (s .at)) || stands ts atomicWord s))
-    (λ e. let l = there ts (λ k. eqb k staticWord || (isQualifierWord k || eqb k atomicWord)) (s .at) no-bound-word e in bound-words-agree f g (skip s) (omega arith) (omega arith))
-    (λ e. refl)
+      (λ e. let l = there ts (λ k. eqb k staticWord || (isQualifierWord k || eqb k atomicWord)) (s .at) no-bound-word e in bound-words-agree f g (skip s) (omega arith) (omega arith))
+      (λ e. refl)
 
   pub bound-words-enough : (s : State) → Enough (λ f. boundWords ts f s) (suc (left ts (s .at)))
   bound-words-enough s = enough (λ f g. bound-words-agree f g s)
@@ -122,8 +122,8 @@ module _ (ts : Tokens) where
   initialiser-agree zero g depth s p q = absurd (omega arith)
   initialiser-agree (suc f) zero depth s p q = absurd (omega arith)
   initialiser-agree (suc f) (suc g) depth s p q = same-bool (stands ts end s || ((stands ts comma s || stands ts semicolon s) && leZ depth (pos 0)))
-    (λ e. refl)
-    (λ e. let l = not-end s (or-false (stands ts end s) _ e) in initialiser-agree f g _ (skip s) (omega arith) (omega arith))
+      (λ e. refl)
+      (λ e. let l = not-end s (or-false (stands ts end s) _ e) in initialiser-agree f g _ (skip s) (omega arith) (omega arith))
 
   pub initialiser-enough : (depth : ℤ) (s : State) → Enough (λ f. skipInitialiser ts f depth s) (suc (left ts (s .at)))
   initialiser-enough depth s = enough (λ f g. initialiser-agree f g depth s)
@@ -136,18 +136,18 @@ module _ (ts : Tokens) (m : Model) (next : Levels) (ok : LevelsOn next) where
   specifiers-agree zero g x s p q = absurd (omega arith)
   specifiers-agree (suc f) zero x s p q = absurd (omega arith)
   specifiers-agree (suc f) (suc g) x s p q =
-    same-bool (isWord (kindAt ts (s .at))) (λ e. let l = there ts isWord (s .at) no-word e in
-    same-bool (isStorageWord (kindAt ts (s .at))) (λ u. specifiers-agree f g _ (skip s) (omega arith) (omega arith)) (λ u.
-    same-bool (isQualifierWord (kindAt ts (s .at))) (λ u. specifiers-agree f g _ (skip s) (omega arith) (omega arith)) (λ u.
-    same-bool (isIgnoredWord (kindAt ts (s .at))) (λ u. specifiers-agree f g _ (skip s) (omega arith) (omega arith)) (λ u.
-    same-bool (isTypeWord (kindAt ts (s .at)))
+      same-bool (isWord (kindAt ts (s .at))) (λ e. let l = there ts isWord (s .at) no-word e in
+      same-bool (isStorageWord (kindAt ts (s .at))) (λ u. specifiers-agree f g _ (skip s) (omega arith) (omega arith)) (λ u.
+      same-bool (isQualifierWord (kindAt ts (s .at))) (λ u. specifiers-agree f g _ (skip s) (omega arith) (omega arith)) (λ u.
+      same-bool (isIgnoredWord (kindAt ts (s .at))) (λ u. specifiers-agree f g _ (skip s) (omega arith) (omega arith)) (λ u.
+      same-bool (isTypeWord (kindAt ts (s .at)))
       (λ u. same-bool (isSome (x .base)) (λ v. refl) (λ v. specifiers-agree f g _ (skip s) (omega arith) (omega arith)))
       (λ u. same-bool (isTagWord (kindAt ts (s .at)))
-        (λ v. same-bool (namesType x) (λ w. refl)
-          (λ w. same-then _ _ _ (taggedType-past ts m next ok _ (skip s)) λ b h. specifiers-agree f g _ (b .1) (omega arith) (omega arith)))
-        (λ v. same-bool (namesType x) (λ w. refl)
-          (λ w. same-then _ _ _ (namedType-stays s ts m) λ b h. specifiers-agree f g _ (skip (b .1)) (omega arith) (omega arith))))))))
-    (λ e. refl)
+      (λ v. same-bool (namesType x) (λ w. refl)
+      (λ w. same-then _ _ _ (taggedType-past ts m next ok _ (skip s)) λ b h. specifiers-agree f g _ (b .1) (omega arith) (omega arith)))
+      (λ v. same-bool (namesType x) (λ w. refl)
+      (λ w. same-then _ _ _ (namedType-stays s ts m) λ b h. specifiers-agree f g _ (skip (b .1)) (omega arith) (omega arith))))))))
+      (λ e. refl)
 
   pub specifiers-enough : (x : Specifiers) (s : State) → Enough (λ f. specifiersFrom ts m next f x s) (suc (left ts (s .at)))
   specifiers-enough x s = enough (λ f g. specifiers-agree f g x s)
@@ -157,9 +157,9 @@ module _ (ts : Tokens) (m : Model) (next : Levels) (ok : LevelsOn next) where
   parameters-agree zero g first n s p q = absurd (omega arith)
   parameters-agree (suc f) zero first n s p q = absurd (omega arith)
   parameters-agree (suc f) (suc g) first n s p q = same-bool (stands ts ellipsis s) (λ e. refl)
-    (λ e. same-then _ _ _ (parameter-on ts m next ok s) λ x h. same-bool (isVoidList ts n (x .1) (x .0) (x .2)) (λ v. refl)
+      (λ e. same-then _ _ _ (parameter-on ts m next ok s) λ x h. same-bool (isVoidList ts n (x .1) (x .0) (x .2)) (λ v. refl)
       (λ v. same-then _ _ _ (adjusted-stays (x .2) (s .at) (x .0)) λ a i. same-then _ _ _ (pushParameter-stays (a .1) _) λ y j.
-        same-bool (stands ts comma (y .1)) (λ w. let l = here! ts comma (y .1) refl w in parameters-agree f g first (suc n) (skip (y .1)) (omega arith) (omega arith)) (λ w. refl)))
+      same-bool (stands ts comma (y .1)) (λ w. let l = here! ts comma (y .1) refl w in parameters-agree f g first (suc n) (skip (y .1)) (omega arith) (omega arith)) (λ w. refl)))
 
   pub parameters-enough : (first n : ℕ) (s : State) → Enough (λ f. parametersFrom ts m next f first n s) (suc (left ts (s .at)))
   parameters-enough first n s = enough (λ f g. parameters-agree f g first n s)
@@ -169,24 +169,24 @@ module _ (ts : Tokens) (m : Model) (next : Levels) (ok : LevelsOn next) where
   suffixes-agree zero g used d s p q = absurd (omega arith)
   suffixes-agree (suc f) zero used d s p q = absurd (omega arith)
   suffixes-agree (suc f) (suc g) used d s p q =
-    same-bool (stands ts openBracket s) (λ e. let l = here! ts openBracket s refl e in
+      same-bool (stands ts openBracket s) (λ e. let l = here! ts openBracket s refl e in
       same-then _ _ _ (oneMoreStep-stays ts _ (skip s)) λ s₁ i. let j : s₁ .at ≡ s .at + 1 = rw i in
       same-then _ _ _ (arrayBound-past ts m next ok s₁) λ b h. suffixes-agree f g used _ (b .1) (omega arith) (omega arith))
-    (λ e. same-bool (stands ts openParen s) (λ v. let l = here! ts openParen s refl v in
+      (λ e. same-bool (stands ts openParen s) (λ v. let l = here! ts openParen s refl v in
       same-then _ _ _ (oneMoreStep-stays ts _ (skip s)) λ s₁ i. let j : s₁ .at ≡ s .at + 1 = rw i in
       same-then _ _ _ (parameters-past ts m next ok s₁) λ b h. suffixes-agree f g used _ (b .1) (omega arith) (omega arith))
-    (λ v. refl))
+      (λ v. refl))
 
   pub suffixes-enough : (used : ℕ) (d : Declarator) (s : State) → Enough (λ f. suffixesFrom ts m next f used d s) (suc (left ts (s .at)))
   suffixes-enough used d s = enough (λ f g. suffixes-agree f g used d s)
 
   member-declarators-agree : (f g first b : ℕ) (s : State) → left ts (s .at) < f → left ts (s .at) < g
-    → memberDeclarators ts m next f first b s ≡ memberDeclarators ts m next g first b s
+      → memberDeclarators ts m next f first b s ≡ memberDeclarators ts m next g first b s
   unfolding memberDeclarators
   member-declarators-agree zero g first b s p q = absurd (omega arith)
   member-declarators-agree (suc f) zero first b s p q = absurd (omega arith)
   member-declarators-agree (suc f) (suc g) first b s p q = same-then _ _ _ (memberDeclarator-on ts m next ok first b s) λ s₁ h.
-    same-bool (stands ts comma s₁) (λ e. let l = here! ts comma s₁ refl e in member-declarators-agree f g first b (skip s₁) (omega arith) (omega arith)) (λ e. refl)
+      same-bool (stands ts comma s₁) (λ e. let l = here! ts comma s₁ refl e in member-declarators-agree f g first b (skip s₁) (omega arith) (omega arith)) (λ e. refl)
 
   pub member-declarators-enough : (first b : ℕ) (s : State) → Enough (λ f. memberDeclarators ts m next f first b s) (suc (left ts (s .at)))
   member-declarators-enough first b s = enough (λ f g. member-declarators-agree f g first b s)
@@ -196,19 +196,19 @@ module _ (ts : Tokens) (m : Model) (next : Levels) (ok : LevelsOn next) where
   members-agree zero g first s p q = absurd (omega arith)
   members-agree (suc f) zero first s p q = absurd (omega arith)
   members-agree (suc f) (suc g) first s p q = same-bool (stands ts closeBrace s) (λ e. refl) (λ e. same-bool (stands ts end s) (λ u. refl) (λ u. let l = not-end ts s u in
-    same-bool (stands ts semicolon s) (λ v. members-agree f g first (skip s) (omega arith) (omega arith))
-    (λ v. same-then _ _ _ (memberDeclaration-past ts m next ok first s) λ s₁ h. members-agree f g first s₁ (omega arith) (omega arith))))
+      same-bool (stands ts semicolon s) (λ v. members-agree f g first (skip s) (omega arith) (omega arith))
+      (λ v. same-then _ _ _ (memberDeclaration-past ts m next ok first s) λ s₁ h. members-agree f g first s₁ (omega arith) (omega arith))))
 
   pub members-enough : (first : ℕ) (s : State) → Enough (λ f. membersFrom ts m next f first s) (suc (left ts (s .at)))
   members-enough first s = enough (λ f g. members-agree f g first s)
 
   enumerators-agree : (f g first : ℕ) (value : ℤ) (s : State) → left ts (s .at) < f → left ts (s .at) < g
-    → enumeratorsFrom ts m next f first value s ≡ enumeratorsFrom ts m next g first value s
+      → enumeratorsFrom ts m next f first value s ≡ enumeratorsFrom ts m next g first value s
   unfolding enumeratorsFrom
   enumerators-agree zero g first value s p q = absurd (omega arith)
   enumerators-agree (suc f) zero first value s p q = absurd (omega arith)
   enumerators-agree (suc f) (suc g) first value s p q = same-bool (stands ts closeBrace s) (λ e. refl)
-    (λ e. same-then _ _ _ (enumerator-past ts m next ok first value s) λ x h. same-bool (stands ts comma (x .1))
+      (λ e. same-then _ _ _ (enumerator-past ts m next ok first value s) λ x h. same-bool (stands ts comma (x .1))
       (λ u. let l = here! ts comma (x .1) refl u in enumerators-agree f g first _ (skip (x .1)) (omega arith) (omega arith)) (λ u. refl))
 
   pub enumerators-enough : (first : ℕ) (value : ℤ) (s : State) → Enough (λ f. enumeratorsFrom ts m next f first value s) (suc (left ts (s .at)))
@@ -222,7 +222,7 @@ module _ (ts : Tokens) (m : Model) where
   init-declarators-agree zero g c b s p q = absurd (omega arith)
   init-declarators-agree (suc f) zero c b s p q = absurd (omega arith)
   init-declarators-agree (suc f) (suc g) c b s p q = same-then _ _ _ (initDeclarator-on ts m c b s) λ s₁ h.
-    same-bool (stands ts comma s₁) (λ e. let l = here! ts comma s₁ refl e in init-declarators-agree f g c b (skip s₁) (omega arith) (omega arith)) (λ e. refl)
+      same-bool (stands ts comma s₁) (λ e. let l = here! ts comma s₁ refl e in init-declarators-agree f g c b (skip s₁) (omega arith) (omega arith)) (λ e. refl)
 
   pub init-declarators-enough : (c : Storage) (b : ℕ) (s : State) → Enough (λ f. initDeclarators ts m f c b s) (suc (left ts (s .at)))
   init-declarators-enough c b s = enough (λ f g. init-declarators-agree f g c b s)
@@ -243,8 +243,8 @@ module _ (ts : Tokens) (m : Model) where
   declarations-agree zero g s p q = absurd (omega arith)
   declarations-agree (suc f) zero s p q = absurd (omega arith)
   declarations-agree (suc f) (suc g) s p q = same-bool (stands ts end s) (λ e. refl) (λ e. let l = not-end ts s e in
-    same-bool (stands ts semicolon s) (λ u. declarations-agree f g (skip s) (omega arith) (omega arith))
-    (λ u. same-then _ _ _ (declaration-on ts m s) λ s₁ h. same-then _ _ _ (separated-here s₁) λ s₂ k. ⊎-elim
+      same-bool (stands ts semicolon s) (λ u. declarations-agree f g (skip s) (omega arith) (omega arith))
+      (λ u. same-then _ _ _ (declaration-on ts m s) λ s₁ h. same-then _ _ _ (separated-here s₁) λ s₂ k. ⊎-elim
       (λ a. declarations-agree f g s₂ (omega arith) (omega arith))
       (λ a. let z : stands ts end s₂ ≡ true = rw (a .0) (a .1) in ended f s₂ z ∙ sym (ended g s₂ z)) k))
 

@@ -14,12 +14,15 @@ use Rattle.laws.specs.Every.{Every}
 use Rattle.laws.specs.Enough.{Enough}
 
 pub same-bool : {B : Type 0} (b : Bool) {x y x′ y′ : B} → (b ≡ true → x ≡ x′) → (b ≡ false → y ≡ y′)
-  → _≡_ {A = B} (elim b as (λ z. B) [ true ↦ x | false ↦ y ]) (elim b as (λ z. B) [ true ↦ x′ | false ↦ y′ ])
+    → _≡_ {A = B} (elim b as (λ z. B) [ true ↦ x | false ↦ y ]) (elim b as (λ z. B) [ true ↦ x′ | false ↦ y′ ])
 same-bool true h k = h refl
 same-bool false h k = k refl
 
 pub chosen! : {B : Type 0} (b : Bool) (x y : B) → b ≡ true → _≡_ {A = B} (elim b as (λ z. B) [ true ↦ x | false ↦ y ]) x
 chosen! b x y e = rw e
+
+pub other! : {B : Type 0} (b : Bool) (x y : B) → b ≡ false → _≡_ {A = B} (elim b as (λ z. B) [ true ↦ x | false ↦ y ]) y
+other! b x y e = rw e
 
 pub same-then : {A B : Type 0} {P : A → Type 0} (r : Answer A) (k k′ : A → Answer B) → Every P r → ((a : A) → P a → k a ≡ k′ a) → (r >>= k) ≡ (r >>= k′)
 unfolding _>>=_

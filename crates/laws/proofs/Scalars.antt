@@ -33,12 +33,12 @@ module _ (m : Model) (ws : Words) where
   double-names-none : May NamesNone (doubleType m ws)
   unfolding doubleType targetOf
   double-names-none = either (ltb 0 (howMany shortWord ws) || (ltb 0 (howMany intWord ws) || (ltb 0 (signs ws) || ltb 1 (howMany longWord ws)))) never
-    (either (eqb (howMany longWord ws) 1) (may refl) (may refl))
+      (either (eqb (howMany longWord ws) 1) (may refl) (may refl))
 
   char-names-none : May NamesNone (charType m ws)
   unfolding charType targetOf
   char-names-none = either (ltb 0 (howMany shortWord ws) || (ltb 0 (howMany longWord ws) || ltb 0 (howMany intWord ws))) never
-    (either (eqb (signs ws) 0) (may refl) (may refl))
+      (either (eqb (signs ws) 0) (may refl) (may refl))
 
   short-names-none : May NamesNone (shortType m ws)
   unfolding shortType targetOf
@@ -47,17 +47,17 @@ module _ (m : Model) (ws : Words) where
   int-names-none : May NamesNone (intType m ws)
   unfolding intType targetOf
   int-names-none = either (eqb (howMany intWord ws + signs ws + howMany longWord ws) (total ws) && ltb 0 (total ws))
-    (either (eqb (howMany longWord ws) 0) (may refl) (either (eqb (howMany longWord ws) 1) (may refl) (either (eqb (howMany longWord ws) 2) (may refl) never))) never
+      (either (eqb (howMany longWord ws) 0) (may refl) (either (eqb (howMany longWord ws) 1) (may refl) (either (eqb (howMany longWord ws) 2) (may refl) never))) never
 
   pub combine-names-none : May NamesNone (combine m ws)
   unfolding combine targetOf
   combine-names-none = either (ltb 1 (signs ws)) never (either (ltb 0 (howMany complexWord ws)) never
-    (either (ltb 0 (howMany voidWord ws)) (either (eqb (total ws) 1) (may refl) never)
-    (either (ltb 0 (howMany boolWord ws)) (either (eqb (total ws) 1) (may refl) never)
-    (either (ltb 0 (howMany floatWord ws)) (either (eqb (total ws) 1) (may refl) never)
-    (either (ltb 0 (howMany doubleWord ws)) double-names-none
-    (either (ltb 0 (howMany charWord ws)) char-names-none
-    (either (ltb 0 (howMany shortWord ws)) short-names-none int-names-none)))))))
+      (either (ltb 0 (howMany voidWord ws)) (either (eqb (total ws) 1) (may refl) never)
+      (either (ltb 0 (howMany boolWord ws)) (either (eqb (total ws) 1) (may refl) never)
+      (either (ltb 0 (howMany floatWord ws)) (either (eqb (total ws) 1) (may refl) never)
+      (either (ltb 0 (howMany doubleWord ws)) double-names-none
+      (either (ltb 0 (howMany charWord ws)) char-names-none
+      (either (ltb 0 (howMany shortWord ws)) short-names-none int-names-none)))))))
 
 data All : List (ℕ × Row) → Type 0 where
   none′ : All []
@@ -71,4 +71,4 @@ type-in k (also {x} {xs} h hs) = either (eqb k (x .0)) (may h) (type-in k hs)
 pub builtin-names-none : (m : Model) (k : ℕ) → May NamesNone (builtin m k)
 unfolding builtin targetOf
 builtin-names-none m k = type-in k (also refl (also refl (also refl (also refl (also refl (also refl (also refl (also refl (also refl (also refl
-  (also refl (also refl (also refl (also refl (also refl (also refl (also refl (also refl (also refl (also refl none′))))))))))))))))))))
+    (also refl (also refl (also refl (also refl (also refl (also refl (also refl (also refl (also refl (also refl none′))))))))))))))))))))

@@ -138,19 +138,49 @@ openParameters first o = record { members = o .members; values = o .values; para
 
 module _ {o : Marks} (t : Table) (first : ℕ) (h : Sound o t) where
   pub members-opened : Sound (openMembers first o) t
-  members-opened = record { some-row = h .some-row; few-rows = h .few-rows; few-members = h .few-members; few-values = h .few-values; few-parameters = h .few-parameters;
-    few-declarations = h .few-declarations; rows = h .rows; values = h .values; parameters = h .parameters; declarations = h .declarations;
-    members = each-weaker (h .members) (λ i e k. record { carries = carries-opened first (k .carries); type = k .type }) }
+  members-opened = record {
+    some-row = h .some-row;
+    few-rows = h .few-rows;
+    few-members = h .few-members;
+    few-values = h .few-values;
+    few-parameters = h .few-parameters;
+    few-declarations = h .few-declarations;
+    rows = h .rows;
+    values = h .values;
+    parameters = h .parameters;
+    declarations = h .declarations;
+    members = each-weaker (h .members) (λ i e k. record { carries = carries-opened first (k .carries); type = k .type });
+  }
 
   pub values-opened : Sound (openValues first o) t
-  values-opened = record { some-row = h .some-row; few-rows = h .few-rows; few-members = h .few-members; few-values = h .few-values; few-parameters = h .few-parameters;
-    few-declarations = h .few-declarations; rows = h .rows; members = h .members; parameters = h .parameters; declarations = h .declarations;
-    values = each-weaker (h .values) (λ i e k. record { carries = carries-opened first (k .carries) }) }
+  values-opened = record {
+    some-row = h .some-row;
+    few-rows = h .few-rows;
+    few-members = h .few-members;
+    few-values = h .few-values;
+    few-parameters = h .few-parameters;
+    few-declarations = h .few-declarations;
+    rows = h .rows;
+    members = h .members;
+    parameters = h .parameters;
+    declarations = h .declarations;
+    values = each-weaker (h .values) (λ i e k. record { carries = carries-opened first (k .carries) });
+  }
 
   pub parameters-opened : Sound (openParameters first o) t
-  parameters-opened = record { some-row = h .some-row; few-rows = h .few-rows; few-members = h .few-members; few-values = h .few-values; few-parameters = h .few-parameters;
-    few-declarations = h .few-declarations; rows = h .rows; members = h .members; values = h .values; declarations = h .declarations;
-    parameters = each-weaker (h .parameters) (λ i e k. record { carries = carries-opened first (k .carries); type = k .type }) }
+  parameters-opened = record {
+    some-row = h .some-row;
+    few-rows = h .few-rows;
+    few-members = h .few-members;
+    few-values = h .few-values;
+    few-parameters = h .few-parameters;
+    few-declarations = h .few-declarations;
+    rows = h .rows;
+    members = h .members;
+    values = h .values;
+    declarations = h .declarations;
+    parameters = each-weaker (h .parameters) (λ i e k. record { carries = carries-opened first (k .carries); type = k .type });
+  }
 
 -- ---- rows that are named
 
@@ -163,6 +193,7 @@ module _ {o : Marks} (t : Table) (h : Sound o t) where
       in-table : Lower i (rowAt t i) → i < length (t .rows) → Dec (suc 0 ≤ i) → targetOf (rowAt t i) < length (t .rows)
       in-table k l (yes p) = let z = k .lower p in omega arith
       in-table k l (no p) = let z = lt-of-not-le p in let s = h .some-row in rw (k .first (omega arith)) (omega arith)
+
       go : Dec (suc i ≤ length (t .rows)) → targetOf (rowAt t i) < length (t .rows)
       go (yes l) = in-table (each-get (h .rows) i void l) l (decLe 1 i)
       go (no l) = let z = lt-of-not-le l in let s = h .some-row in rw (List·getD-eq-default (t .rows) void {n = i} (omega arith)) (omega arith)
@@ -188,7 +219,7 @@ named-between kind name [] i n e = let z : _≡_ {A = ℕ} 0 1 = cc in absurd (o
 named-between kind name (x ∷ xs) i n e = go (eqb (kindOf x) kind && eqb (rowName x) name) (named-between kind name xs (suc i) n) e
   where
     go : (b : Bool) → (rowNamed kind name (suc i) xs ≡ some n → Between (suc i) n (suc i + length xs))
-      → elim b as (λ z. Option ℕ) [ true ↦ some i | false ↦ rowNamed kind name (suc i) xs ] ≡ some n → Between i n (i + length (x ∷ xs))
+        → elim b as (λ z. Option ℕ) [ true ↦ some i | false ↦ rowNamed kind name (suc i) xs ] ≡ some n → Between i n (i + length (x ∷ xs))
     go true ih e = let z : i ≡ n = cc in record { from = omega arith; to = omega arith }
     go false ih e = let z = ih e in record { from = omega arith; to = omega arith }
 
@@ -205,7 +236,7 @@ named-positive kind name (x ∷ xs) n f (cons h hs) e = go x (h .first refl) e
 
 -- one more row, which names rows before it
 row-added : {o : Marks} (t : Table) (r : Row) → Sound o t → length (t .rows) < maxRows → targetOf r < length (t .rows)
-  → Whole o (t .rows ++ r ∷ []) (t .members) (t .values) (t .parameters) (t .declarations)
+    → Whole o (t .rows ++ r ∷ []) (t .members) (t .values) (t .parameters) (t .declarations)
 row-added t r h l p = let n : length (t .rows ++ r ∷ []) ≡ length (t .rows) + 1 = length-append (t .rows) (r ∷ []) in record {
   some-row = omega arith;
   few-rows = omega arith;
@@ -225,8 +256,8 @@ module _ (o : Marks) (s : State) (h : Sound o (s .table)) where
   pub pushRow-new : (r : Row) → targetOf r < length (s .table .rows) → Every (λ (x : ℕ × State). Gives o (s .table) (x .0) (x .1 .table) × (0 < x .0)) (pushRow r s)
   unfolding pushRow
   pushRow-new r p = test! (leb maxRows (length (s .table .rows))) (λ e. no!) (λ e. let l = leb-false maxRows (length (s .table .rows)) e in
-    let n : length (s .table .rows ++ r ∷ []) ≡ length (s .table .rows) + 1 = length-append (s .table .rows) (r ∷ []) in
-    got! (record { kept = record { rows = omega arith; members = le-refl _; values = le-refl _; parameters = le-refl _; sound = row-added (s .table) r h l p }; below = omega arith }, h .some-row))
+      let n : length (s .table .rows ++ r ∷ []) ≡ length (s .table .rows) + 1 = length-append (s .table .rows) (r ∷ []) in
+      got! (record { kept = record { rows = omega arith; members = le-refl _; values = le-refl _; parameters = le-refl _; sound = row-added (s .table) r h l p }; below = omega arith }, h .some-row))
 
   pub pushRow-sound : (r : Row) → targetOf r < length (s .table .rows) → Every (λ (x : ℕ × State). Gives o (s .table) (x .0) (x .1 .table)) (pushRow r s)
   pushRow-sound r p = weaker! (pushRow-new r p) (λ x k. k .0)
@@ -234,46 +265,106 @@ module _ (o : Marks) (s : State) (h : Sound o (s .table)) where
   pub add-sound : (r : Row) → targetOf r < length (s .table .rows) → Every (λ (x : ℕ × State). Gives o (s .table) (x .0) (x .1 .table)) (add r s)
   unfolding add
   add-sound r p = option! (equalRow (s .table) r 0 (s .table .rows)) (λ n e. let z = equal-below (s .table) r (s .table .rows) 0 n e in
-    got! (record { kept = stay h; below = omega arith })) (pushRow-sound r p)
+      got! (record { kept = stay h; below = omega arith })) (pushRow-sound r p)
 
   pub pushMember-sound : (e : Member) → MemberIn (length (s .table .rows)) (o .members) (length (s .table .members)) e
-    → Every (λ (x : ℕ × State). Kept o (s .table) (x .1 .table)) (pushMember e s)
+      → Every (λ (x : ℕ × State). Kept o (s .table) (x .1 .table)) (pushMember e s)
   unfolding pushMember
   pushMember-sound e p = test! (leb maxMembers (length (s .table .members))) (λ e. no!) (λ q. let l = leb-false maxMembers (length (s .table .members)) q in
-    let n : length (s .table .members ++ e ∷ []) ≡ length (s .table .members) + 1 = length-append (s .table .members) (e ∷ []) in
-    got! (record { rows = le-refl _; members = omega arith; values = le-refl _; parameters = le-refl _; sound = record {
-      some-row = h .some-row; few-rows = h .few-rows; few-members = omega arith; few-values = h .few-values; few-parameters = h .few-parameters;
-      few-declarations = h .few-declarations; rows = h .rows; values = h .values; parameters = h .parameters; declarations = h .declarations;
-      members = each-push (h .members) p } }))
+      let n : length (s .table .members ++ e ∷ []) ≡ length (s .table .members) + 1 = length-append (s .table .members) (e ∷ []) in
+      got! (record {
+        rows = le-refl _;
+        members = omega arith;
+        values = le-refl _;
+        parameters = le-refl _;
+        sound = record {
+          some-row = h .some-row;
+          few-rows = h .few-rows;
+          few-members = omega arith;
+          few-values = h .few-values;
+          few-parameters = h .few-parameters;
+          few-declarations = h .few-declarations;
+          rows = h .rows;
+          values = h .values;
+          parameters = h .parameters;
+          declarations = h .declarations;
+          members = each-push (h .members) p;
+        };
+      }))
 
   pub pushValue-sound : (e : Value) → ValueIn (length (s .table .rows)) (o .values) (length (s .table .values)) e
-    → Every (λ (x : ℕ × State). Kept o (s .table) (x .1 .table)) (pushValue e s)
+      → Every (λ (x : ℕ × State). Kept o (s .table) (x .1 .table)) (pushValue e s)
   unfolding pushValue
   pushValue-sound e p = test! (leb maxValues (length (s .table .values))) (λ e. no!) (λ q. let l = leb-false maxValues (length (s .table .values)) q in
-    let n : length (s .table .values ++ e ∷ []) ≡ length (s .table .values) + 1 = length-append (s .table .values) (e ∷ []) in
-    got! (record { rows = le-refl _; members = le-refl _; values = omega arith; parameters = le-refl _; sound = record {
-      some-row = h .some-row; few-rows = h .few-rows; few-members = h .few-members; few-values = omega arith; few-parameters = h .few-parameters;
-      few-declarations = h .few-declarations; rows = h .rows; members = h .members; parameters = h .parameters; declarations = h .declarations;
-      values = each-push (h .values) p } }))
+      let n : length (s .table .values ++ e ∷ []) ≡ length (s .table .values) + 1 = length-append (s .table .values) (e ∷ []) in
+      got! (record {
+        rows = le-refl _;
+        members = le-refl _;
+        values = omega arith;
+        parameters = le-refl _;
+        sound = record {
+          some-row = h .some-row;
+          few-rows = h .few-rows;
+          few-members = h .few-members;
+          few-values = omega arith;
+          few-parameters = h .few-parameters;
+          few-declarations = h .few-declarations;
+          rows = h .rows;
+          members = h .members;
+          parameters = h .parameters;
+          declarations = h .declarations;
+          values = each-push (h .values) p;
+        };
+      }))
 
   pub pushParameter-sound : (e : Parameter) → ParameterIn (length (s .table .rows)) (o .parameters) (length (s .table .parameters)) e
-    → Every (λ (x : ℕ × State). Kept o (s .table) (x .1 .table)) (pushParameter e s)
+      → Every (λ (x : ℕ × State). Kept o (s .table) (x .1 .table)) (pushParameter e s)
   unfolding pushParameter
   pushParameter-sound e p = test! (leb maxParameters (length (s .table .parameters))) (λ e. no!) (λ q. let l = leb-false maxParameters (length (s .table .parameters)) q in
-    let n : length (s .table .parameters ++ e ∷ []) ≡ length (s .table .parameters) + 1 = length-append (s .table .parameters) (e ∷ []) in
-    got! (record { rows = le-refl _; members = le-refl _; values = le-refl _; parameters = omega arith; sound = record {
-      some-row = h .some-row; few-rows = h .few-rows; few-members = h .few-members; few-values = h .few-values; few-parameters = omega arith;
-      few-declarations = h .few-declarations; rows = h .rows; members = h .members; values = h .values; declarations = h .declarations;
-      parameters = each-push (h .parameters) p } }))
+      let n : length (s .table .parameters ++ e ∷ []) ≡ length (s .table .parameters) + 1 = length-append (s .table .parameters) (e ∷ []) in
+      got! (record {
+        rows = le-refl _;
+        members = le-refl _;
+        values = le-refl _;
+        parameters = omega arith;
+        sound = record {
+          some-row = h .some-row;
+          few-rows = h .few-rows;
+          few-members = h .few-members;
+          few-values = h .few-values;
+          few-parameters = omega arith;
+          few-declarations = h .few-declarations;
+          rows = h .rows;
+          members = h .members;
+          values = h .values;
+          declarations = h .declarations;
+          parameters = each-push (h .parameters) p;
+        };
+      }))
 
   pub pushDeclaration-sound : (d : Declaration) → d .type < length (s .table .rows) → Every (λ (x : ℕ × State). Kept o (s .table) (x .1 .table)) (pushDeclaration d s)
   unfolding pushDeclaration
   pushDeclaration-sound d p = test! (leb maxDeclarations (length (s .table .declarations))) (λ e. no!) (λ q. let l = leb-false maxDeclarations (length (s .table .declarations)) q in
-    let n : length (s .table .declarations ++ d ∷ []) ≡ length (s .table .declarations) + 1 = length-append (s .table .declarations) (d ∷ []) in
-    got! (record { rows = le-refl _; members = le-refl _; values = le-refl _; parameters = le-refl _; sound = record {
-      some-row = h .some-row; few-rows = h .few-rows; few-members = h .few-members; few-values = h .few-values; few-parameters = h .few-parameters;
-      few-declarations = omega arith; rows = h .rows; members = h .members; values = h .values; parameters = h .parameters;
-      declarations = each-push (h .declarations) (record { type = p }) } }))
+      let n : length (s .table .declarations ++ d ∷ []) ≡ length (s .table .declarations) + 1 = length-append (s .table .declarations) (d ∷ []) in
+      got! (record {
+        rows = le-refl _;
+        members = le-refl _;
+        values = le-refl _;
+        parameters = le-refl _;
+        sound = record {
+          some-row = h .some-row;
+          few-rows = h .few-rows;
+          few-members = h .few-members;
+          few-values = h .few-values;
+          few-parameters = h .few-parameters;
+          few-declarations = omega arith;
+          rows = h .rows;
+          members = h .members;
+          values = h .values;
+          parameters = h .parameters;
+          declarations = each-push (h .declarations) (record { type = p });
+        };
+      }))
 
 -- ---- lists that are closed
 
@@ -281,23 +372,23 @@ module _ {n : ℕ} {os : List ℕ} where
   pub members-owned : (first b : ℕ) {ms : List Member} → b < n → Each (MemberIn n (first ∷ os)) 0 ms → Each (MemberIn n os) 0 (ownMembers first b ms)
   unfolding ownMembers
   members-owned first b p h = each-changed (MemberIn n (first ∷ os)) (MemberIn n os) _ _
-    (λ i e t k. record { carries = row p; type = k .type })
-    (λ i e t k. record { carries = carries-other first t (k .carries); type = k .type })
-    first (λ i e l k. record { carries = carries-earlier first (omega arith) (k .carries); type = k .type }) h
+      (λ i e t k. record { carries = row p; type = k .type })
+      (λ i e t k. record { carries = carries-other first t (k .carries); type = k .type })
+      first (λ i e l k. record { carries = carries-earlier first (omega arith) (k .carries); type = k .type }) h
 
   pub values-owned : (first b : ℕ) {vs : List Value} → b < n → Each (ValueIn n (first ∷ os)) 0 vs → Each (ValueIn n os) 0 (ownValues first b vs)
   unfolding ownValues
   values-owned first b p h = each-changed (ValueIn n (first ∷ os)) (ValueIn n os) _ _
-    (λ i e t k. record { carries = row p })
-    (λ i e t k. record { carries = carries-other first t (k .carries) })
-    first (λ i e l k. record { carries = carries-earlier first (omega arith) (k .carries) }) h
+      (λ i e t k. record { carries = row p })
+      (λ i e t k. record { carries = carries-other first t (k .carries) })
+      first (λ i e l k. record { carries = carries-earlier first (omega arith) (k .carries) }) h
 
   pub parameters-owned : (first b : ℕ) {ps : List Parameter} → b < n → Each (ParameterIn n (first ∷ os)) 0 ps → Each (ParameterIn n os) 0 (ownParameters first b ps)
   unfolding ownParameters
   parameters-owned first b p h = each-changed (ParameterIn n (first ∷ os)) (ParameterIn n os) _ _
-    (λ i e t k. record { carries = row p; type = k .type })
-    (λ i e t k. record { carries = carries-other first t (k .carries); type = k .type })
-    first (λ i e l k. record { carries = carries-earlier first (omega arith) (k .carries); type = k .type }) h
+      (λ i e t k. record { carries = row p; type = k .type })
+      (λ i e t k. record { carries = carries-other first t (k .carries); type = k .type })
+      first (λ i e l k. record { carries = carries-earlier first (omega arith) (k .carries); type = k .type }) h
 
   -- a field of width 0 carries row 0
   pub members-fields : (first : ℕ) {ms : List Member} → 0 < n → Each (MemberIn n os) 0 ms → Each (MemberIn n os) 0 (fieldsOnly first ms)

@@ -65,7 +65,7 @@ module _ (s : State) where
   pub namedType-stays : (ts : Tokens) (m : Model) → Stays (s .at) (namedType ts m s)
   unfolding namedType
   namedType-stays ts m = bool! (isName (kindAt ts (s .at))) (option! (typedefRow (s .table) (numberAt ts (s .at))) (λ n e. got! refl)
-    (option! (builtin m (kindAt ts (s .at))) (λ r e. add-stays r) no!)) no!
+      (option! (builtin m (kindAt ts (s .at))) (λ r e. add-stays r) no!)) no!
 
   pub wordsType-stays : (m : Model) (p : Specifiers) (at : ℕ) → Stays (s .at) (wordsType m p at s)
   unfolding wordsType
@@ -78,7 +78,7 @@ module _ (s : State) where
   pub adjusted-stays : (at b : ℕ) → Stays (s .at) (adjusted at b s)
   unfolding adjusted
   adjusted-stays at b = bool! (eqb (resolvedKind (s .table) b) arrayKind) (add-stays _) (bool! (eqb (resolvedKind (s .table) b) functionKind) (add-stays _)
-    (bool! (eqb (resolvedKind (s .table) b) voidKind) no! (got! refl)))
+      (bool! (eqb (resolvedKind (s .table) b) voidKind) no! (got! refl)))
 
   pub tagRow-stays : (u : Bool) (w : ℕ) → Stays (s .at) (tagRow u w s)
   unfolding tagRow
@@ -87,7 +87,7 @@ module _ (s : State) where
   pub addBody-stays : (u : Bool) (b : Body) → Stays (s .at) (addBody u b s)
   unfolding addBody
   addBody-stays u b = option! (equalRow (s .table) (composite u noName (some (b .size)) (b .fields)) 0 (s .table .rows)) (λ n e. got! refl)
-    (then! _ _ (pushRow-stays _) λ x h. got! h)
+      (then! _ _ (pushRow-stays _) λ x h. got! h)
 
   pub enumTagRow-stays : (n w : ℕ) → Stays (s .at) (enumTagRow n w s)
   unfolding enumTagRow
@@ -131,8 +131,8 @@ pub apply-stays : (xs : List DeclaratorStep) (b : ℕ) (s : State) → Stays (s 
 unfolding apply
 apply-stays [] b s = got! refl
 apply-stays (pointerStep q ∷ xs) b s = then! _ _ (add-stays s (pointer b)) λ p h. then! _ _ (qualify-stays (p .1) q (p .0)) λ r k.
-  weaker! (apply-stays xs (r .0) (r .1)) (λ x l. l ∙ (k ∙ h))
+    weaker! (apply-stays xs (r .0) (r .1)) (λ x l. l ∙ (k ∙ h))
 apply-stays (arrayStep n ∷ xs) b s = bool! (eqb (resolvedKind (s .table) b) voidKind) no!
-  (then! _ _ (add-stays s (array b n)) λ r h. weaker! (apply-stays xs (r .0) (r .1)) (λ x l. l ∙ h))
+    (then! _ _ (add-stays s (array b n)) λ r h. weaker! (apply-stays xs (r .0) (r .1)) (λ x l. l ∙ h))
 apply-stays (functionStep v e ∷ xs) b s = bool! (eqb (resolvedKind (s .table) b) arrayKind || eqb (resolvedKind (s .table) b) functionKind) no!
-  (then! _ _ (addFunction-stays s (returned (s .table) b) v e) λ r h. weaker! (apply-stays xs (r .0) (r .1)) (λ x l. l ∙ h))
+    (then! _ _ (addFunction-stays s (returned (s .table) b) v e) λ r h. weaker! (apply-stays xs (r .0) (r .1)) (λ x l. l ∙ h))

@@ -2,3 +2,4 @@ pub mod Every
 pub mod Enough
 pub mod Progress
 pub mod Inside
+pub mod Left

@@ -3,3 +3,7 @@ pub mod WalkProof
 pub mod LayoutProof
 pub mod GrowProof
 pub mod BodyProof
+pub mod TableProof
+pub mod ReadProof
+pub mod NameProof
+pub mod Demand3

@@ -107,7 +107,7 @@ unfolding tableOf hasBody hasUse orderly Walk.shapeBy Walk.shapeWithin Walk.step
     Enumeration.bareEnum Enumeration.closeEnum Enumeration.enumeratorValue Enumeration.enumerator Enumeration.enumeratorsFrom Enumeration.enumBody
     Enumeration.afterTag Enumeration.enumeration₁ Reader.constantHere Reader.levels Reader.nested Reader.skipInitialiser Reader.initialiser
     Reader.defineTypedef Reader.isTypedef Reader.declaredRow Reader.declare Reader.initDeclarator Reader.initDeclarators Reader.declaration
-    Reader.separated Reader.declarationsFrom Reader.inText Reader.translationUnit Reader.optionalSemicolon Reader.nothingMore Reader.loneDeclaration
+    Reader.separated Reader.declarationsFrom Reader.inText Reader.translationUnit Reader.optionalSemicolon Reader.nothingMore Reader.allDeclarations Reader.loneDeclaration
     Reader.oneDeclaration Class.among Class.isBlankByte Class.isLetterByte Class.isDigitByte Class.markBytes Class.classOf Class.isBlank
     Class.isWordByte Scan.begins Scan.before Scan.startsWith Scan.contains Place.after Place.afterAll Place.placeOf Word.attributeWords
     Word.keywords Word.builtinNames Word.words Word.kindAmong Word.kindOf Mark.twoByteMarks Mark.oneByteMarks Mark.markAmong Mark.shortMark

@@ -16,13 +16,17 @@ OUTPUT = TOOL.parent / "target" / "definition"
 
 
 class Config:
-    def __init__(self, file):
+    """`plain` leaves out all that is there for speed alone and can be left out: `check` compares the two."""
+
+    def __init__(self, file=TOOL / "entry.toml", plain=False):
+        self.plain = plain
         self.file = Path(file).resolve()
         text = tomllib.loads(self.file.read_text(encoding="utf-8"))
         self.crates = [(self.file.parent / text["crates"]).resolve()]
         self.module = text["module"]
         self.entries = text["entries"]
-        self.remember = text.get("remember", [])
+        self.remember = [] if plain else text.get("remember", [])
+        self.confirm = text.get("confirm", {})
 
 
 def runtime(*names):
@@ -41,9 +45,9 @@ def member(source, name):
 
 def translate(config):
     """The program's text and the files that it was made from."""
-    source = program(config.crates)
+    source = program(config.crates, overrides=not config.plain)
     module = source.module(config.module.split("."))
-    compiler = Compiler(member(source, name) for name in config.remember)
+    compiler = Compiler([member(source, name) for name in config.remember], shares=not config.plain)
     entries = {}
     for name, expression in config.entries.items():
         entries[name] = compiler.add_text(module, expression, f"{config.file} ({name})")
@@ -73,9 +77,14 @@ def is_fresh(output, config):
     return made_from["digest"] == digest(own_files(config) + made_from["files"])
 
 
+def output_name(config):
+    """Configs of one name in different folders, or with other contents, do not share a program."""
+    return f"{config.file.stem}-{digest([str(config.file)])[:8]}{'-plain' if config.plain else ''}.js"
+
+
 def built(config, output=None):
     """The program's file, written if it has to be."""
-    output = Path(output) if output else OUTPUT / (config.file.stem + "-" + digest([str(config.file)])[:8] + ".js")
+    output = Path(output) if output else OUTPUT / output_name(config)
     if not is_fresh(output, config):
         text, files = translate(config)
         head = json.dumps({"digest": digest(own_files(config) + files), "files": files}, ensure_ascii=False)

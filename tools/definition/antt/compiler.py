@@ -11,11 +11,11 @@ from .simplify import Simplifier
 class Compiler:
     """`remember` are functions whose results are kept while one record is answered."""
 
-    def __init__(self, remember=()):
+    def __init__(self, remember=(), shares=True):
         self.remember = set(remember)
         self.lowered = {}
         self.done = set()
-        self.simplifier = Simplifier(self.lowered_of)
+        self.simplifier = Simplifier(self.lowered_of, shares)
         self.javascript = JavaScript(lambda entity: self.lowered_of(entity).arity)
 
     def lowered_of(self, entity):

@@ -264,10 +264,14 @@ class Program:
         return {library["name"]: (project.parent / library["src"]).resolve() for library in described}
 
     def file_of(self, parts):
-        """The file of a module, or None. A crate's specs are the library `Rattle.CRATE.specs`, its root module `specs`."""
+        """The file of a module, or None.
+
+        A crate's specs are the library `Rattle.CRATE.specs`, with the root module `specs`, to the crate
+        itself, and `Rattle.CRATE.specs` to other crates.
+        """
         words = parts[0].split("·")
-        if len(words) == 3 and words[0] == "Rattle":
-            relative = FilePath(words[2], *parts[2:]) if len(parts) > 2 else FilePath(words[2], "Lib")
+        if words[0] == "Rattle" and len(words) in (2, 3) and len(parts) > 1:
+            relative = FilePath(parts[1], *(parts[2:] or ["Lib"]))
             candidates = [folder / words[1] / relative for folder in self.crates_folders]
         elif parts[0] in self.libraries:
             candidates = [FilePath(self.libraries[parts[0]], *(parts[1:] or ["Lib"]))]

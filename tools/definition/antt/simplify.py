@@ -28,11 +28,13 @@ def occurrences(e, variable):
 class Simplifier:
     """`lowered_of(entity)` gives another function, to be written out where it is small."""
 
-    def __init__(self, lowered_of):
+    def __init__(self, lowered_of, shares=True):
         self.lowered_of = lowered_of
+        self.shares = shares
 
     def run(self, parameters, body):
-        return settle_lets(share(parameters, self.simplify(body)))
+        body = self.simplify(body)
+        return settle_lets(share(parameters, body) if self.shares else body)
 
     def simplify(self, e):
         if isinstance(e, core.Global):

@@ -1,0 +1,81 @@
+use borrow.Author.Needs.{needs}
+use Rattle.table.proofs.push_declaration.Statement.{statement}
+use Rattle.table.proofs.push_declaration.Tie as tie
+use Rattle.table.proofs.push_declaration.Reads as reads
+use Rattle.table.proofs.push_declaration.Lts as lts
+use native.Mathlib.Omega.{arith}
+use mathlib.Core.Path.{refl}
+use mathlib.Core.List.{_∷_, [], _++_}
+use lib.ListN.{length, length-set}
+use Rattle.table.specs.Reply.{done}
+use Rattle.table.proofs.Branch.{le+, le-}
+use Rattle.table.proofs.Shown.{no! }
+use Rattle.table.proofs.Leaves.{declaration-added}
+use Rattle.definition.specs.Table.{pushDeclaration, withDeclarations}
+
+returns : tie.Need-returns
+unfolding pushDeclaration
+returns c = record { of = λ x e. record { run = λ t h. le+ 1024 (length (t .declarations)) _ _ (omega (arith, h .counts .declarations)) (no! refl) } }
+
+mul-b : tie.Need-mul-b
+mul-b c = search needs
+
+add-b : tie.Need-add-b
+add-b c = search needs
+
+mul-w : tie.Need-mul-w
+mul-w c = search needs
+
+slice-write-w : tie.Need-slice-write-w
+slice-write-w c = search needs
+
+add-w : tie.Need-add-w
+add-w c = search needs
+
+mul-w-2 : tie.Need-mul-w-2
+mul-w-2 c = search needs
+
+slice-write-w-2 : tie.Need-slice-write-w-2
+slice-write-w-2 c = simp length-set (omega arith)
+
+add-w-2 : tie.Need-add-w-2
+add-w-2 c = search needs
+
+mul-w-3 : tie.Need-mul-w-3
+mul-w-3 c = search needs
+
+slice-write-w-3 : tie.Need-slice-write-w-3
+slice-write-w-3 c = simp length-set (omega arith)
+
+add-t11 : tie.Need-add-t11
+add-t11 c = search needs
+
+cast-t17 : tie.Need-cast-t17
+cast-t17 c = search needs
+
+same-length : tie.Need-same-length
+same-length c = search needs
+
+returns-2 : tie.Need-returns-2
+unfolding pushDeclaration
+returns-2 c = record { of = λ x e. record { run = λ t h. le- 1024 (length (t .declarations)) _ _ (omega (arith, h .counts .declarations)) (record { ends = done (withDeclarations t (t .declarations ++ (record { storage = x; type = c .before .args .ty; name = c .before .args .name }) ∷ [])) _ _ (rw (← h .counts .declarations)) refl (declaration-added h (record { storage = x; type = c .before .args .ty; name = c .before .args .name }) _ e (c .if1 .left)) }) } }
+
+pub push-declaration-spec : {M : Type 1} → statement M
+push-declaration-spec =
+    tie.close
+    (tie.spec
+    returns
+    mul-b
+    add-b
+    mul-w
+    slice-write-w
+    add-w
+    mul-w-2
+    slice-write-w-2
+    add-w-2
+    mul-w-3
+    slice-write-w-3
+    add-t11
+    cast-t17
+    same-length
+    returns-2)

@@ -1,0 +1,109 @@
+use borrow.Author.Needs.{needs}
+use Rattle.table.proofs.set_row.Statement.{statement}
+use Rattle.table.proofs.set_row.Tie as tie
+use Rattle.table.proofs.set_row.Reads as reads
+use Rattle.table.proofs.set_row.Lts as lts
+use native.Mathlib.Omega.{arith}
+use lib.ListN.{length, length-set}
+use Rattle.table.proofs.Leaves.{row-put, row-past}
+
+mul-b : tie.Need-mul-b
+mul-b c = search needs
+
+mul-w : tie.Need-mul-w
+mul-w c = search needs
+
+slice-write-w : tie.Need-slice-write-w
+slice-write-w c = search needs
+
+add-w : tie.Need-add-w
+add-w c = search needs
+
+mul-w-2 : tie.Need-mul-w-2
+mul-w-2 c = search needs
+
+slice-write-w-2 : tie.Need-slice-write-w-2
+slice-write-w-2 c = simp length-set (omega arith)
+
+add-w-2 : tie.Need-add-w-2
+add-w-2 c = search needs
+
+mul-w-3 : tie.Need-mul-w-3
+mul-w-3 c = search needs
+
+slice-write-w-3 : tie.Need-slice-write-w-3
+slice-write-w-3 c = simp length-set (omega arith)
+
+add-w-3 : tie.Need-add-w-3
+add-w-3 c = search needs
+
+mul-w-4 : tie.Need-mul-w-4
+mul-w-4 c = search needs
+
+slice-write-w-4 : tie.Need-slice-write-w-4
+slice-write-w-4 c = simp length-set (omega arith)
+
+add-w-4 : tie.Need-add-w-4
+add-w-4 c = search needs
+
+mul-w-5 : tie.Need-mul-w-5
+mul-w-5 c = search needs
+
+slice-write-w-5 : tie.Need-slice-write-w-5
+slice-write-w-5 c = simp length-set (omega arith)
+
+add-w-5 : tie.Need-add-w-5
+add-w-5 c = search needs
+
+mul-w-6 : tie.Need-mul-w-6
+mul-w-6 c = search needs
+
+slice-write-w-6 : tie.Need-slice-write-w-6
+slice-write-w-6 c = simp length-set (omega arith)
+
+mul-d : tie.Need-mul-d
+mul-d c = search needs
+
+slice-write-d : tie.Need-slice-write-d
+slice-write-d c = search needs
+
+same-length : tie.Need-same-length
+same-length c = search needs
+
+same-length-2 : tie.Need-same-length-2
+same-length-2 c = search needs
+
+returns : tie.Need-returns
+returns c = record { of = λ x e. record { run = λ t h. row-put h _ x _ e (c .if1 .taken) } }
+
+returns-2 : tie.Need-returns-2
+returns-2 c = record { of = λ x e. record { run = λ t h. row-past h _ x (c .if1 .left) } }
+
+pub set-row-spec : {M : Type 1} → statement M
+set-row-spec =
+    tie.close
+    (tie.spec
+    mul-b
+    mul-w
+    slice-write-w
+    add-w
+    mul-w-2
+    slice-write-w-2
+    add-w-2
+    mul-w-3
+    slice-write-w-3
+    add-w-3
+    mul-w-4
+    slice-write-w-4
+    add-w-4
+    mul-w-5
+    slice-write-w-5
+    add-w-5
+    mul-w-6
+    slice-write-w-6
+    mul-d
+    slice-write-d
+    same-length
+    same-length-2
+    returns
+    returns-2)

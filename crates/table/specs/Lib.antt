@@ -1,0 +1,4 @@
+pub mod Ends
+pub mod Held
+pub mod Reply
+pub mod Store
