@@ -17,7 +17,7 @@ use Rattle.definition.specs.Table.{Member, Value, Parameter, Declaration, Table
 use Rattle.definition.specs.Entry.{Accepted, Outcome, accepted, rejected}
 use Rattle.definition.specs.Lent.{padded, flat, rowWords, memberWords, valueWords, parameterWords, declarationWords, nameWords, tableWords, words, wordsLength, rowWides, memberWides, wides, widesLength, valueSigneds, signeds, signedsLength, Lent, longEnough, zeroed, leftIn}
 use Rattle.laws.specs.Inside.{WithinLimits}
-use Rattle.laws.specs.Left.{AllZero, AsLong, Filled}
+use Rattle.laws.specs.Left.{AllZero, AsLong, Filled, UnusedZero, membersBegin, valuesBegin, parametersBegin, declarationsBegin, namesBegin}
 
 -- ---- numbers with zeros after them
 
@@ -83,6 +83,68 @@ words-length a h p =
     let b = tableWords-length (a .table) h in
     let c = region-length 0 nameWords 2 maxNames (a .names) (λ x. refl) (omega arith) in
     simp length-append (omega arith)
+
+-- ---- unused entries
+
+-- a zero in the first of two parts, and in the second
+module _ {E : Type 0} (z : E) (xs ys : List E) where
+  early : (i : ℕ) → i < length xs → getD xs i z ≡ z → getD (xs ++ ys) i z ≡ z
+  early i p h = List·getD-append xs ys z i p ∙ h
+
+  late : (n i : ℕ) → length xs ≡ n → getD ys i z ≡ z → getD (xs ++ ys) (n + i) z ≡ z
+  late n i e h = rw (← e) (getD-append-add xs ys i z ∙ h)
+
+-- a region's numbers from those of its last entry on
+unused : {A E : Type 0} (z : E) (f : A → List E) (k n i : ℕ) (xs : List A) → ((x : A) → length (f x) ≡ k) → k * length xs ≤ i → getD (padded z n (flat f xs)) i z ≡ z
+unused z f k n i xs h p = let a = flat-length f k h xs in padded-unused z n (flat f xs) i (omega arith)
+
+module _ (t : Table) where
+  abbrev R : List ℕ
+  R = padded 0 (6 * maxRows) (flat rowWords (t .rows))
+
+  abbrev RM : List ℕ
+  RM = R ++ padded 0 (4 * maxMembers) (flat memberWords (t .members))
+
+  abbrev RMV : List ℕ
+  RMV = RM ++ padded 0 (2 * maxValues) (flat valueWords (t .values))
+
+  abbrev RMVP : List ℕ
+  RMVP = RMV ++ padded 0 (3 * maxParameters) (flat parameterWords (t .parameters))
+
+  module _ (h : WithinLimits t) where
+    R-length : length R ≡ membersBegin
+    R-length = region-length 0 rowWords 6 maxRows (t .rows) (λ x. refl) (let p = h .rows in omega arith)
+
+    RM-length : length RM ≡ valuesBegin
+    RM-length = let a = R-length in let b = region-length 0 memberWords 4 maxMembers (t .members) (λ x. refl) (let p = h .members in omega arith) in simp length-append (omega arith)
+
+    RMV-length : length RMV ≡ parametersBegin
+    RMV-length = let a = RM-length in let b = region-length 0 valueWords 2 maxValues (t .values) (λ x. refl) (let p = h .values in omega arith) in rw (length-append RM) (omega arith)
+
+    RMVP-length : length RMVP ≡ declarationsBegin
+    RMVP-length = let a = RMV-length in let b = region-length 0 parameterWords 3 maxParameters (t .parameters) (λ x. refl) (let p = h .parameters in omega arith) in rw (length-append RMV) (omega arith)
+
+module _ (a : Accepted) (h : WithinLimits (a .table)) where
+  pub unused-zero : UnusedZero a
+  unfolding words tableWords wides signeds
+  unused-zero = let t = a .table in let r = R-length t h in let rm = RM-length t h in let rmv = RMV-length t h in let rmvp = RMVP-length t h in let all = tableWords-length t h in record {
+    rows = λ i p q. early 0 (tableWords t) _ i (omega arith) (early 0 (RMVP t) _ i (omega arith) (early 0 (RMV t) _ i (omega arith) (early 0 (RM t) _ i (omega arith) (early 0 (R t) _ i (omega arith)
+        (unused 0 rowWords 6 (6 * maxRows) i (t .rows) (λ x. refl) p)))));
+    members = λ i p q. early 0 (tableWords t) _ (membersBegin + i) (omega arith) (early 0 (RMVP t) _ (membersBegin + i) (omega arith) (early 0 (RMV t) _ (membersBegin + i) (omega arith) (early 0 (RM t) _ (membersBegin + i) (omega arith)
+        (late 0 (R t) _ membersBegin i r (unused 0 memberWords 4 (4 * maxMembers) i (t .members) (λ x. refl) p)))));
+    values = λ i p q. early 0 (tableWords t) _ (valuesBegin + i) (omega arith) (early 0 (RMVP t) _ (valuesBegin + i) (omega arith) (early 0 (RMV t) _ (valuesBegin + i) (omega arith)
+        (late 0 (RM t) _ valuesBegin i rm (unused 0 valueWords 2 (2 * maxValues) i (t .values) (λ x. refl) p))));
+    parameters = λ i p q. early 0 (tableWords t) _ (parametersBegin + i) (omega arith) (early 0 (RMVP t) _ (parametersBegin + i) (omega arith)
+        (late 0 (RMV t) _ parametersBegin i rmv (unused 0 parameterWords 3 (3 * maxParameters) i (t .parameters) (λ x. refl) p)));
+    declarations = λ i p q. early 0 (tableWords t) _ (declarationsBegin + i) (omega arith)
+        (late 0 (RMVP t) _ declarationsBegin i rmvp (unused 0 declarationWords 3 (3 * maxDeclarations) i (t .declarations) (λ x. refl) p));
+    names = λ i p. late 0 (tableWords t) _ namesBegin i all (unused 0 nameWords 2 (2 * maxNames) i (a .names) (λ x. refl) p);
+    rowWides = λ i p q. early 0 (padded 0 maxRows (flat rowWides (t .rows))) _ i (let c = flat-length rowWides 1 (λ x. refl) (t .rows) in let d = h .rows in omega (arith, padded-length 0 maxRows (flat rowWides (t .rows)) (omega arith)))
+        (unused 0 rowWides 1 maxRows i (t .rows) (λ x. refl) (omega arith));
+    memberWides = λ i p. late 0 (padded 0 maxRows (flat rowWides (t .rows))) _ maxRows i (let c = flat-length rowWides 1 (λ x. refl) (t .rows) in let d = h .rows in padded-length 0 maxRows (flat rowWides (t .rows)) (omega arith))
+        (unused 0 memberWides 2 (2 * maxMembers) i (t .members) (λ x. refl) p);
+    signeds = λ i p. unused (pos 0) valueSigneds 1 maxValues i (t .values) (λ x. refl) (omega arith);
+  }
 
 -- ---- what a call leaves
 

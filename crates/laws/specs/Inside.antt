@@ -4,9 +4,10 @@ use mathlib.Core.Option.{none}
 use Prim.Native.Nat.{ℕ, _≤_, _<_}
 use lib.IntN.{pos}
 use lib.ListN.{length, getD}
-use Rattle.definition.specs.Limit.{maxRows, maxMembers, maxValues, maxParameters, maxDeclarations}
+use Rattle.definition.specs.Limit.{maxRows, maxMembers, maxValues, maxParameters, maxDeclarations, maxNames}
 use Rattle.definition.specs.Row.{void, targetOf}
 use Rattle.definition.specs.Table.{Member, Value, Parameter, Declaration, noStorage, Table, rowAt}
+use Rattle.definition.specs.Entry.{Accepted}
 
 -- "1,024 type rows, 1,024 declarations, 4,096 members, 4,096 enumerators and 4,096 parameters"
 pub record WithinLimits (t : Table) : Type 0 where
@@ -43,3 +44,8 @@ pub record Inside (t : Table) : Type 0 where
   pub memberType : (i : ℕ) → i < length (t .members) → memberAt t i .type < length (t .rows)
   pub parameterType : (i : ℕ) → i < length (t .parameters) → parameterAt t i .type < length (t .rows)
   pub declarationType : (i : ℕ) → i < length (t .declarations) → declarationAt t i .type < length (t .rows)
+
+-- What a call accepts: such a table, and "the name table has 16,384 entries, which no text can pass".
+pub record Acceptable (a : Accepted) : Type 0 where
+  pub inside : Inside (a .table)
+  pub names : length (a .names) ≤ maxNames

@@ -20,7 +20,7 @@ use Rattle.definition.specs.Table.{Member, Table, State, Event, bodied, used, w
 use Rattle.definition.specs.Types.{rowNamed, compositeRow, enumRow, equalRow, add, changedFrom}
 use Rattle.definition.specs.Composite.{withRow, ownMembers, releaseMembers, Body, defineBody, membersOwned, addBody, tagRow, noted}
 use Rattle.definition.specs.Enumeration.{enumTagRow, defineEnum, addEnum, bareEnum, closeEnum}
-use Rattle.walks.specs.Condition.{hasBody, hasUse, orderly}
+use Rattle.walks.specs.Condition.{hasBody, hasUse, met, orderly}
 use Rattle.walks.proofs.Every.{Every, got!, no!, bool!, test!, option!, then!, weaker!}
 use Rattle.walks.proofs.WalkProof.{View, composed, listed, other, viewOf, viewAt}
 use Rattle.walks.proofs.LayoutProof.{T-left, T-right, T-is}
@@ -53,9 +53,6 @@ eqb-false a b h = go (eqb a b) refl
     go true z = absurd (h (eqb→eq a b (T-is z)))
 
 -- ---- a log with more events
-
-abbrev pub met : ℕ → List Event → Bool
-met w l = hasBody w l || hasUse w l
 
 pub record More (l l′ : List Event) : Type 0 where
   pub body : (v : ℕ) → T (hasBody v l) → T (hasBody v l′)

@@ -19,10 +19,14 @@ hasUse w (bodied v ∷ l) = hasUse w l
 hasUse w (used v ∷ l) = eqb w v || hasUse w l
 hasUse w (wide ∷ l) = hasUse w l
 
+-- a tag has had a body, or has been used as an enum's
+abbrev pub met : ℕ → List Event → Bool
+met w l = hasBody w l || hasUse w l
+
 -- "a tag is the name alone, and its bodies are all braces that follow it, replaced ones too. An enum tag is used before its body where `enum`
 -- and the tag stand without braces ahead of a body of that tag, or inside one."
 unfoldable pub orderly : List Event → Bool
 orderly [] = true
-orderly (bodied w ∷ l) = not (hasBody w l || hasUse w l) && orderly l
+orderly (bodied w ∷ l) = not (met w l) && orderly l
 orderly (used w ∷ l) = orderly l
 orderly (wide ∷ l) = false

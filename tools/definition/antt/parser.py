@@ -14,7 +14,6 @@ CLOSERS = {")", "}"}
 # Names that end an expression or begin a form, so that they are no atoms.
 STOPS = {"[", "]", "|", "=", ":", "→", "←", "↦", "×", "in", "as", "where", "using"}
 FORMS = {"λ", "let", "do"}
-OTHER_RESERVED = {"unfold"}
 
 
 @dataclass(frozen=True)

@@ -1,0 +1,4 @@
+pub mod RoundUp
+pub mod Told
+pub mod Members
+pub mod Sizes
