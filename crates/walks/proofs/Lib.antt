@@ -6,4 +6,6 @@ pub mod BodyProof
 pub mod TableProof
 pub mod ReadProof
 pub mod NameProof
+pub mod TextProof
+pub mod TextRead
 pub mod Demand3

@@ -96,4 +96,4 @@ def built(config, output=None):
     return output
 
 
-__all__ = ["AnttError", "Config", "built", "program", "runtime", "translate"]
+__all__ = ["TOOL", "AnttError", "Config", "built", "program", "runtime", "translate"]

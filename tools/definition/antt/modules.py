@@ -61,7 +61,7 @@ class Module:
         if head == j:
             return current
         word = self.tokens[head].text if self.tokens[head].kind == "name" else ""
-        if word in HEADS and not (word == "open" and head != i):
+        if word in HEADS:
             return self.read_head(word, head, j, sections, current)
         split = find_at_depth_0(self.tokens, i, j, {":", "="})
         if split is not None and self.tokens[split].text == ":":

@@ -1,0 +1,3 @@
+pub mod Picked
+pub mod Laws
+pub mod Uses

@@ -1,0 +1,12 @@
+use Rattle.words.proofs.types.BaseRow.bool.Statement.{statement}
+use Rattle.words.proofs.types.BaseRow.bool.Tie as tie
+use mathlib.Core.Path.{refl}
+use Rattle.definition.specs.Row.{kindOf, flagsOf, extentOf}
+use Rattle.words.specs.Meaning.{numbers}
+
+returns : tie.Need-returns
+unfolding numbers kindOf flagsOf extentOf
+returns c = refl
+
+pub bool-spec : {M : Type 1} → statement M
+bool-spec = tie.close (tie.spec returns)
