@@ -1,21 +1,20 @@
 -- The entries of a body: laid out they still carry its mark, then they get its row.
 use mathlib.Core.Path.{_≡_, refl, sym, _∙_, ap, subst}
-use mathlib.Core.Logic.{_≢_, _⊎_, inl, inr}
+use mathlib.Core.Logic.{_⊎_, inl, inr}
 use mathlib.Core.List.{List, [], _∷_, _++_}
 use mathlib.Core.Option.{Option, none, some, Option·some-injective, Option·none-ne-some}
 use mathlib.Core.Bool.{Bool, true, false, not, _||_, _&&_}
 use Prim.Native.Nat.{ℕ, zero, suc, _+_, _*_, _≤_, _<_}
 use native.Mathlib.Omega.{arith}
-use lib.Dec.{T, eqb, eqb→eq, eqb-refl}
-use lib.ListN.{length, getD, getElem?, take, drop}
-use Rattle.definition.specs.Limit.{maxRows}
+use lib.Dec.{T, eqb, eqb→eq}
+use lib.ListN.{getD, getElem?, take, drop}
 use Rattle.definition.specs.Model.{Model}
 use Rattle.definition.specs.Row.{Row, void}
 use Rattle.definition.specs.Table.{Member, Table, rowAt, markOf}
 use Rattle.definition.specs.Types.{changedIf, changedFrom}
 use Rattle.definition.specs.Layout.{noneWide}
 use Rattle.definition.specs.Composite.{withRow, isField, fieldsOnly, ownMembers}
-use Rattle.walks.proofs.WalkProof.{View, composed, viewOf, viewAt, entryFrom, entryWide, entryEnd, PlainKnown}
+use Rattle.walks.proofs.WalkProof.{composed, viewAt, entryFrom, entryWide, entryEnd, PlainKnown}
 use Rattle.walks.proofs.LayoutProof.{T-is, Pairs, Laying, Placed}
 use Rattle.walks.proofs.GrowProof.{RowGrows, stays, Grows, Edge, Own, Kept, Adds, kept-grows, wide-kept, plain-kept, from-same, at-edge}
 

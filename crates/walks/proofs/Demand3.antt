@@ -1,25 +1,27 @@
 -- Demand 3, of every text that is accepted and meets the conditions.
-use mathlib.Core.Path.{_≡_, refl, sym, _∙_, subst}
+use mathlib.Core.Path.{_≡_, refl, sym, _∙_, ap}
 use mathlib.Core.Bool.{Bool, true, false}
-use mathlib.Core.Option.{Option, none, some, Option·some-injective}
 use mathlib.Core.List.{[]}
+use mathlib.Core.Option.{Option, none, some, Option·some-injective, Option·none-ne-some}
 use mathlib.Core.Logic.{inl}
 use Prim.Native.Nat.{ℕ}
+use native.Mathlib.Omega.{arith}
 use lib.Dec.{T, leb}
 use lib.ListN.{length}
-use Rattle.definition.specs.Answer.{Answer, got, refused, _>>=_}
+use Rattle.definition.specs.Answer.{Answer, got, refused}
+use Rattle.definition.specs.Refusal.{badCall}
 use Rattle.definition.specs.Text.{Bytes}
 use Rattle.definition.specs.Token.{Lexed}
 use Rattle.definition.specs.Model.{Model, modelOf}
 use Rattle.definition.specs.Table.{Table}
-use Rattle.definition.specs.Reader.{inText, allDeclarations, loneDeclaration, translationUnit, oneDeclaration}
+use Rattle.definition.specs.Reader.{inText, translationUnit, oneDeclaration}
 use Rattle.definition.specs.Cut.{tokenize}
-use Rattle.definition.specs.Entry.{Entry, wholeHeader, singleDeclaration, Accepted, parse, readWith, read}
+use Rattle.definition.specs.Entry.{Entry, wholeHeader, singleDeclaration, Accepted, parse, readWith, read, accepted, told, outcome}
 use Rattle.walks.specs.Walk.{Walks}
-use Rattle.walks.specs.Condition.{Orderly, noneTooWide, orderly}
-use Rattle.walks.proofs.Every.{All, Every, got!, no!, bool!, option!, then!, weaker!, of!}
+use Rattle.walks.specs.Condition.{Orderly, noneTooWide, Meets, orderly}
+use Rattle.walks.proofs.Every.{All, Every, got!, no!, bool!, then!, of!}
 use Rattle.walks.proofs.WalkProof.{walks}
-use Rattle.walks.proofs.GrowProof.{Kept, kept-grows, kept-sound}
+use Rattle.walks.proofs.GrowProof.{kept-grows, kept-sound}
 use Rattle.walks.proofs.BodyProof.{tab, edge-adds, same-grows}
 use Rattle.walks.proofs.TableProof.{Inv}
 use Rattle.walks.proofs.ReadProof.{Named, all-ok, lone-ok}
@@ -46,26 +48,13 @@ unfolding parse translationUnit oneDeclaration
 parse-ok wholeHeader x m n = then! (placed! x (all-ok (x .tokens) m n)) λ s h. got! h
 parse-ok singleDeclaration x m n = then! (placed! x (lone-ok (x .tokens) m n)) λ s h. bool! (leb (length (s .table .declarations)) 1) (got! h) no!
 
--- a text, under any numbers for a model
-text-ok : (m : Model) (entry : Entry) (text : Bytes) → Every (λ a. T (orderly (a .table .log)) → Walks m (a .table)) (readWith m entry text)
+-- ---- from what the reader did
+
+walks-of : (m : Model) (entry : Entry) (text : Bytes) → Every (λ a. T (orderly (a .table .log)) → Walks m (a .table)) (readWith m entry text)
 unfolding readWith
-text-ok m entry text = then! (tokenize-named text) λ x n. then! (parse-ok entry x m n) λ t i. got! (λ h. inv-walks m t i h)
+walks-of m entry text = then! (tokenize-named text) λ x n. then! (parse-ok entry x m n) λ t i. got! (λ h. inv-walks m t i h)
 
-pub demand3-with : (m : Model) (entry : Entry) (text : Bytes) (a : Accepted) → readWith m entry text ≡ got a → T (orderly (a .table .log)) → Walks m (a .table)
-demand3-with m entry text a e h = of! (text-ok m entry text) e h
-
--- a text, under the model of a number
-read-ok : (model : ℕ) (lent : Bool) (entry : Entry) (text : Bytes)
-  → Every (λ a. (m : Model) → modelOf model ≡ some m → T (orderly (a .table .log)) → Walks m (a .table)) (read model lent entry text)
-unfolding read
-read-ok model lent entry text = option! (modelOf model) (λ z. no!) (λ m z. bool! lent
-  (weaker! (text-ok m entry text) (λ a w m′ q h. subst (λ x. Walks x (a .table)) (Option·some-injective m m′ (sym z ∙ q)) (w h))) no!)
-
-pub demand3 : (model : ℕ) (lent : Bool) (entry : Entry) (text : Bytes) (a : Accepted) → read model lent entry text ≡ got a
-  → (m : Model) → modelOf model ≡ some m → T (orderly (a .table .log)) → Walks m (a .table)
-demand3 model lent entry text a e = of! (read-ok model lent entry text) e
-
--- ---- the conditions on the text
+-- ---- from the text
 
 self! : {A : Type 0} (r : Answer A) → Every (λ a. r ≡ got a) r
 self! (got a) = got! refl
@@ -77,18 +66,54 @@ unfolding All
 under! (got a) f = got! (λ h. f h .holds)
 under! (refused n at) f = no!
 
--- a text that meets the conditions has an orderly log
 parse-orderly : (entry : Entry) (x : Lexed) (m : Model) → Orderly (x .tokens) → Every (λ t. T (noneTooWide (t .log)) → T (orderly (t .log))) (parse entry x m)
 unfolding parse translationUnit oneDeclaration
 parse-orderly wholeHeader x m c = then! (placed! x (all-t (x .tokens) m c)) λ s h. got! (h .order)
 parse-orderly singleDeclaration x m c = then! (placed! x (lone-t (x .tokens) m c)) λ s h. bool! (leb (length (s .table .declarations)) 1) (got! (h .order)) no!
 
-with-orderly : (m : Model) (entry : Entry) (text : Bytes)
-  → Every (λ a. (x : Lexed) → tokenize text ≡ got x → Orderly (x .tokens) → T (noneTooWide (a .table .log)) → T (orderly (a .table .log))) (readWith m entry text)
+-- a text that meets the conditions has an orderly log
+orderly-of : (m : Model) (entry : Entry) (text : Bytes) → Every (λ a. Meets text (a .table) → T (orderly (a .table .log))) (readWith m entry text)
 unfolding readWith
-with-orderly m entry text = then! (self! (tokenize text)) λ y e. then! (under! (parse entry y m) (λ c. parse-orderly entry y m c)) λ t h.
-  got! (λ x q c w. (let same = sym e ∙ q in let p : x ≡ y = cc in h (subst (λ z. Orderly (z .tokens)) p c) w))
+orderly-of m entry text = then! (self! (tokenize text)) λ x e. then! (under! (parse entry x m) (λ c. parse-orderly entry x m c)) λ t h.
+  got! (λ c. h (c .tags x e) (c .fields))
 
-pub demand3-text : (m : Model) (entry : Entry) (text : Bytes) (x : Lexed) (a : Accepted) → tokenize text ≡ got x → readWith m entry text ≡ got a
-  → Orderly (x .tokens) → T (noneTooWide (a .table .log)) → Walks m (a .table)
-demand3-text m entry text x a q e c w = demand3-with m entry text a e (of! (with-orderly m entry text) e x q c w)
+-- ---- the theorem: for both entries, and for every model record
+
+pub demand3-read : (m : Model) (entry : Entry) (text : Bytes) (a : Accepted) → readWith m entry text ≡ got a → T (orderly (a .table .log)) → Walks m (a .table)
+demand3-read m entry text a e h = of! (walks-of m entry text) e h
+
+pub demand3-text : (m : Model) (entry : Entry) (text : Bytes) (a : Accepted) → readWith m entry text ≡ got a → Meets text (a .table) → Walks m (a .table)
+demand3-text m entry text a e c = demand3-read m entry text a e (of! (orderly-of m entry text) e c)
+
+-- ---- and so of what a caller is told
+
+told-got : (text : Bytes) (r : Answer Accepted) (a : Accepted) → told text r ≡ accepted a → r ≡ got a
+unfolding told
+told-got text (got b) a e = let q : b ≡ a = cc in ap (λ x. got x) q
+told-got text (refused n at) a e = let z : _≡_ {A = ℕ} 0 1 = cc in absurd (omega arith)
+
+read-got : (model : ℕ) (lent : Bool) (entry : Entry) (text : Bytes) (m : Model) (a : Accepted) → modelOf model ≡ some m → read model lent entry text ≡ got a → readWith m entry text ≡ got a
+unfolding read
+read-got model lent entry text m a q e = at (modelOf model) q lent e
+  where
+    at : (o : Option Model) → o ≡ some m → (b : Bool)
+      → _≡_ {A = Answer Accepted} (elim o [ none ↦ refused badCall 0 | some n ↦ elim b [ true ↦ readWith n entry text | false ↦ refused badCall 0 ] ]) (got a) → readWith m entry text ≡ got a
+    at none p b h = absurd (Option·none-ne-some m p)
+    at (some n) p true h = ap (λ x. readWith x entry text) (sym (Option·some-injective n m p)) ∙ h
+    at (some n) p false h = let z : _≡_ {A = ℕ} 0 1 = cc in absurd (omega arith)
+
+outcome-got : (model : ℕ) (lent : Bool) (entry : Entry) (text : Bytes) (m : Model) (a : Accepted) → outcome model lent entry text ≡ accepted a → modelOf model ≡ some m
+  → readWith m entry text ≡ got a
+unfolding outcome
+outcome-got model lent entry text m a e q = read-got model lent entry text m a q (told-got text (read model lent entry text) a e)
+
+-- Demand 3: of every text that is accepted and meets the conditions, every walk ends inside its start type, and two walks that part at two members of
+-- one struct or two indices of one array share no bit.
+pub demand3 : (model : ℕ) (lent : Bool) (entry : Entry) (text : Bytes) (m : Model) (a : Accepted) → outcome model lent entry text ≡ accepted a → modelOf model ≡ some m
+  → Meets text (a .table) → Walks m (a .table)
+demand3 model lent entry text m a e q c = demand3-text m entry text a (outcome-got model lent entry text m a e q) c
+
+-- the same under the weaker conditions, on what the reader did
+pub demand3-log : (model : ℕ) (lent : Bool) (entry : Entry) (text : Bytes) (m : Model) (a : Accepted) → outcome model lent entry text ≡ accepted a → modelOf model ≡ some m
+  → T (orderly (a .table .log)) → Walks m (a .table)
+demand3-log model lent entry text m a e q h = demand3-read m entry text a (outcome-got model lent entry text m a e q) h

@@ -1,5 +1,5 @@
 -- Answers: a refusal, or a value of which something holds. The laws follow the shape of a reader, step by step.
-use mathlib.Core.Path.{_≡_, refl, sym, subst}
+use mathlib.Core.Path.{_≡_, refl, subst}
 use mathlib.Core.Option.{Option, none, some}
 use mathlib.Core.Bool.{Bool, true, false}
 use Prim.Native.Nat.{ℕ}

@@ -1,10 +1,9 @@
--- How the table grows, and what stays true of it: rows are added at the end, a struct or union of unknown size gets its size, an enum gets its values.
+-- How the table grows, and what stays true of it: rows are added at the end, and a struct or union of unknown size gets its size.
 use mathlib.Core.Path.{_≡_, refl, sym, _∙_, ap, subst}
-use mathlib.Core.Logic.{_≢_, _⊎_, inl, inr}
-use mathlib.Core.List.{List, [], _∷_, _++_}
-use mathlib.Core.Option.{Option, none, some, Option·some-injective, Option·none-ne-some}
-use mathlib.Core.Bool.{Bool, true, false, not}
-use Prim.Native.Nat.{ℕ, zero, suc, _+_, _*_, _≤_, _<_}
+use mathlib.Core.Logic.{_⊎_, inl, inr}
+use mathlib.Core.Option.{Option, none, some}
+use mathlib.Core.Bool.{Bool, true, false}
+use Prim.Native.Nat.{ℕ, zero, suc, _*_, _≤_, _<_}
 use native.Mathlib.Omega.{arith}
 use lib.Dec.{T, ltb}
 use lib.ListN.{getElem?}
@@ -14,9 +13,9 @@ use Rattle.definition.specs.Row.{Row, void, int, float, bool, pointer, array, c
 use Rattle.definition.specs.Table.{Member, Table, rowAt}
 use Rattle.definition.specs.Size.{sizeBy, sizeWithin, sizeOf, times, arraySize}
 use Rattle.walks.specs.Walk.{bitsOf}
-use Rattle.walks.proofs.WalkProof.{View, composed, listed, other, viewOf, viewAt, Open, here, byName, byQualifiers, open-size, KnownOrOpen, entryFrom, entryWide, entryEnd, PlainKnown, Sound}
+use Rattle.walks.proofs.WalkProof.{composed, other, viewOf, viewAt, Open, here, byName, byQualifiers, open-size, KnownOrOpen, entryFrom, entryWide, entryEnd, PlainKnown, Sound}
 
--- a row's change: there was none; it stays; a struct or union gets its body; an enum of the same size gets its values
+-- a row's change: there was none; it stays; a struct or union gets its body
 pub data RowGrows : Row → Row → Type 0 where
   fresh : (r : Row) → RowGrows void r
   stays : (r : Row) → RowGrows r r

@@ -4,21 +4,20 @@ use mathlib.Core.Logic.{_≢_, _⊎_, inl, inr}
 use mathlib.Core.List.{List, [], _∷_, _++_}
 use mathlib.Core.Option.{Option, none, some, Option·some-injective, Option·none-ne-some}
 use mathlib.Core.Bool.{Bool, true, false, not, _&&_, _||_}
-use Prim.Native.Nat.{ℕ, zero, suc, _+_, _-_, _*_, _/_, _%_, _^_, _≤_, _<_, max}
-use native.Mathlib.Nat.{div-add-mod', mod-lt, mul-assoc, mul-comm}
+use Prim.Native.Nat.{ℕ, zero, suc, _+_, _-_, _*_, _/_, _^_, _≤_, _<_, max}
+use native.Mathlib.Nat.{div-add-mod', mod-lt}
 use native.Mathlib.Omega.{arith}
-use lib.Dec.{T, eqb, ltb, leb, eqb→eq, ltb→lt, leb→le, eqb-refl}
-use lib.ListN.{length, take, drop, getElem?}
-use Rattle.definition.specs.Answer.{Answer, got, refused, _>>=_}
+use lib.Dec.{T, eqb, ltb, eqb→eq, leb→le, eqb-refl}
+use lib.ListN.{take, drop, getElem?}
 use Rattle.definition.specs.Model.{Model}
 use Rattle.definition.specs.Row.{Row, void, int, float, bool, pointer, array, composite, enumeration, function, typedef, qualified, kindOf, flagsOf, targetOf, orZero}
 use Rattle.definition.specs.Table.{Member, Table, rowAt, markOf}
 use Rattle.definition.specs.Types.{isAlias, resolveWithin, resolve}
 use Rattle.definition.specs.Size.{sizeOf}
 use Rattle.definition.specs.Align.{alignOf, orOne}
-use Rattle.definition.specs.Layout.{roundUp, within, Laid, emptyBody, advanced, located, isUnsized, memberSize, plainMember, zeroField, fieldStart, fieldAt, bitField, inStruct, widestWith, inUnion, placed, isLast, placedAll, bytesTaken, recordSize, layout, notWider, noneWide}
+use Rattle.definition.specs.Layout.{roundUp, within, Laid, emptyBody, isUnsized, memberSize, plainMember, zeroField, fieldStart, fieldAt, bitField, inStruct, inUnion, placed, isLast, placedAll, bytesTaken, recordSize, layout, notWider, noneWide}
 use Rattle.walks.proofs.Every.{Every, got!, no!, bool!, test!, then!, any!, weaker!}
-use Rattle.walks.proofs.WalkProof.{Open, here, byName, byQualifiers, KnownOrOpen, entryFrom, entryWide, entryEnd, PlainKnown}
+use Rattle.walks.proofs.WalkProof.{Open, here, byName, byQualifiers, KnownOrOpen, entryFrom, entryEnd, PlainKnown}
 
 pub T-left : (a b : Bool) → T (a && b) → T a
 T-left true b h = tt

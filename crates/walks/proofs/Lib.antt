@@ -8,4 +8,5 @@ pub mod ReadProof
 pub mod NameProof
 pub mod TextProof
 pub mod TextRead
+pub mod Decide
 pub mod Demand3

@@ -1,13 +1,12 @@
 -- Every name token of a text has a name: a word has a letter, so the number of its spelling is not 0.
-use mathlib.Core.Path.{_≡_, refl, sym, _∙_, ap, subst}
-use mathlib.Core.Logic.{_≢_, _⊎_, inl, inr}
+use mathlib.Core.Path.{_≡_, refl, sym, subst}
+use mathlib.Core.Logic.{_≢_}
 use mathlib.Core.List.{List, [], _∷_, _++_, map}
 use mathlib.Core.Bool.{Bool, true, false, not, _&&_, _||_}
-use Prim.Native.Nat.{ℕ, zero, suc, _+_, _*_, _≤_, _<_}
+use Prim.Native.Nat.{ℕ, zero, suc, _+_, _<_}
 use native.Mathlib.Omega.{arith}
 use lib.Dec.{T, eqb, leb, ltb, eqb-refl}
 use lib.ListN.{length, getD, drop, take}
-use Rattle.definition.specs.Answer.{Answer, got, refused, _>>=_}
 use Rattle.definition.specs.Limit.{maxText}
 use Rattle.definition.specs.Text as Text
 use Rattle.definition.specs.Text.{Bytes, byteAt, noByte}
@@ -15,7 +14,7 @@ use Rattle.definition.specs.Byte.{lineFeed, hash, apostrophe, quote, dotByte}
 use Rattle.definition.specs.Class as Class
 use Rattle.definition.specs.Class.{classOf, isBlank, isWordByte, letter, digit}
 use Rattle.definition.specs.Scan.{from, first, before}
-use Rattle.definition.specs.Comment.{joins, opensLineComment, opensComment, lineLength, afterComment}
+use Rattle.definition.specs.Comment.{joins, opensLineComment, opensComment, afterComment}
 use Rattle.definition.specs.Directive.{directive, isMacro, endsWord}
 use Rattle.definition.specs.Attribute.{Attribute, attributeAt}
 use Rattle.definition.specs.Number.{numberValue}
@@ -27,7 +26,7 @@ use Rattle.definition.specs.Name.{noName, nameOf}
 use Rattle.definition.specs.Spelling.{knownName}
 use Rattle.definition.specs.Mark.{Mark, Written, twoByteMarks, oneByteMarks, markAmong, shortMark, markOf, markAt, pair}
 use Rattle.definition.specs.Word as Word
-use Rattle.definition.specs.Token.{Token, Tokens, Lexed, columns, kindAt, numberAt}
+use Rattle.definition.specs.Token.{Token, columns}
 use Rattle.definition.specs.Cut.{Cutting, skipTo, newLine, dropTo, push, meet, pushName, pushAttribute, cutWordOf, wordAt, cutWord, numberWord, cutNumber, cutCharacter, cutString, cutMark, cutToken, cutDirective, cutComment, cutOther, cutNext, cutAll, start, cut, checkBytes, tokenize}
 use Rattle.walks.proofs.Every.{Every, got!, no!, bool!, test!, then!, any!}
 use Rattle.walks.proofs.LayoutProof.{T-is}

@@ -1,17 +1,16 @@
 -- The whole reader keeps what is kept of its table.
 use mathlib.Core.Path.{_≡_, refl, sym, _∙_, ap, subst}
-use mathlib.Core.Logic.{_≢_, _⊎_, inl, inr}
-use mathlib.Core.List.{List, [], _∷_, _++_}
+use mathlib.Core.Logic.{_≢_}
+use mathlib.Core.List.{List, [], _∷_}
 use mathlib.Core.Option.{Option, none, some, Option·some-injective, Option·none-ne-some}
 use mathlib.Core.Bool.{Bool, true, false, not, _&&_, _||_}
-use Prim.Native.Nat.{ℕ, zero, suc, _+_, _-_, _*_, _≤_, _<_}
+use Prim.Native.Nat.{ℕ, zero, suc, _+_, _-_}
 use native.Mathlib.Omega.{arith}
 use lib.Dec.{T, eqb, ltb, leb}
-use lib.IntN.{ℤ, pos, negsuc, sucℤ}
+use lib.IntN.{ℤ, pos, sucℤ}
 use lib.Signed.{leZ}
-use lib.ListN.{length, getD, getElem?, drop}
-use Rattle.definition.specs.Answer.{Answer, got, refused, _>>=_}
-use Rattle.definition.specs.Limit.{maxRows, maxValues, maxParameters, maxDeclarations, maxSteps, maxDepth}
+use lib.ListN.{length, getD, drop}
+use Rattle.definition.specs.Limit.{maxValues, maxParameters, maxDeclarations, maxSteps, maxDepth}
 use Rattle.definition.specs.Kind.{isName, isWord, end, attribute, enumWord, unionWord, atomicWord, staticWord, star, openParen, closeParen, openBracket, closeBracket, openBrace, closeBrace, comma, ellipsis, semicolon, colon, equals}
 use Rattle.definition.specs.Name.{noName}
 use Rattle.definition.specs.Token.{Tokens, kindAt, numberAt, left, need}
@@ -20,24 +19,24 @@ use Rattle.definition.specs.Constant.{constant}
 use Rattle.definition.specs.Model.{Model}
 use Rattle.definition.specs.RowKind.{voidKind, arrayKind, functionKind, qualifiedKind}
 use Rattle.definition.specs.Row.{Row, void, int, float, bool, pointer, array, composite, enumeration, function, typedef, qualified, Qualifiers, Span, kindOf, targetOf, isSome}
-use Rattle.definition.specs.Table.{Member, Value, Parameter, Declaration, Storage, storageNumber, noStorage, Table, newTable, State, withMembers, Event, wide, rowAt, markOf, skip, movedTo, withTable, pushRow, pushMember, pushValue, pushParameter, pushDeclaration}
-use Rattle.definition.specs.Types.{typedefRow, equalRow, add, isUnqualified, merged, qualifiersOf, qualify, resolve, resolvedKind}
-use Rattle.definition.specs.Layout.{layout, noneWide}
-use Rattle.definition.specs.Specifier.{Specifiers, Words, noSpecifiers, storing, qualifying, basedOn, wording, namesType, isStorageWord, storageOf, isQualifierWord, withQualifier, isIgnoredWord, isTypeWord, howMany, total, onlyWord, signs, doubleType, charType, shortType, intType, combine, typeIn, builtin}
+use Rattle.definition.specs.Table.{Member, Value, Parameter, Declaration, Storage, storageNumber, noStorage, Table, newTable, State, withMembers, wide, rowAt, markOf, skip, pushMember, pushValue, pushParameter, pushDeclaration}
+use Rattle.definition.specs.Types.{typedefRow, equalRow, isUnqualified, qualify, resolvedKind}
+use Rattle.definition.specs.Layout.{noneWide}
+use Rattle.definition.specs.Specifier.{Specifiers, Words, noSpecifiers, storing, qualifying, basedOn, wording, namesType, isStorageWord, storageOf, isQualifierWord, withQualifier, isIgnoredWord, isTypeWord, howMany, total, signs, doubleType, charType, shortType, intType, combine, typeIn, builtin}
 use Rattle.definition.specs.Kind.{complexWord, voidWord, boolWord, floatWord, doubleWord, charWord, shortWord, intWord, longWord}
 use Rattle.definition.specs.Grammar.{DeclaratorStep, pointerStep, arrayStep, functionStep, Declarator, named, unnamed, withStep, Levels, stands, needed}
 use Rattle.definition.specs.Specifiers.{namedType, wordsType, baseType, isTagWord, taggedType, specifiersFrom, specifiers}
-use Rattle.definition.specs.Declarator.{addFunction, returned, apply, adjusted, qualifiersFrom, qualifiersHere, oneMoreStep, starsFrom, starred, opensDeclarator, boundOf, boundWords, isVoidList, constantBound, arrayBound, parameter, parametersEnd, parametersFrom, parameters, suffixesFrom, suffixes, direct₁, declarator₁}
-use Rattle.definition.specs.Composite.{fieldsOnly, Body, laidBody, defineBody, addBody, tagRow, widthOf, isComposite, fresh, noted, bitWidth, memberDeclarator, memberDeclarators, anonymousMember, memberDeclaration, membersFrom, body, taggedComposite, untaggedComposite, composite₁}
-use Rattle.definition.specs.Enumeration.{enumBytes, valuesSince, closeEnum, bareEnum, valueNamed, enumeratorValue, enumerator, enumeratorsFrom, enumBody, afterTag, enumeration₁}
+use Rattle.definition.specs.Declarator.{addFunction, returned, apply, adjusted, qualifiersFrom, qualifiersHere, oneMoreStep, starsFrom, opensDeclarator, boundOf, boundWords, isVoidList, constantBound, arrayBound, parameter, parametersEnd, parametersFrom, parameters, suffixesFrom, suffixes, direct₁, declarator₁}
+use Rattle.definition.specs.Composite.{fieldsOnly, Body, laidBody, widthOf, isComposite, fresh, noted, bitWidth, memberDeclarator, memberDeclarators, anonymousMember, memberDeclaration, membersFrom, body, taggedComposite, untaggedComposite, composite₁}
+use Rattle.definition.specs.Enumeration.{enumBytes, valuesSince, valueNamed, enumeratorValue, enumerator, enumeratorsFrom, enumBody, afterTag, enumeration₁}
 use Rattle.definition.specs.Reader.{constantHere, levels, nested, skipInitialiser, initialiser, defineTypedef, isTypedef, declaredRow, declare, inner, initDeclarator, initDeclarators, declaration, separated, declarationsFrom, start, optionalSemicolon, nothingMore, allDeclarations, loneDeclaration}
 use Rattle.walks.specs.Condition.{orderly}
-use Rattle.walks.proofs.Every.{Every, got!, no!, bool!, test!, option!, then!, any!, weaker!}
-use Rattle.walks.proofs.WalkProof.{composed, listed, other, viewOf}
+use Rattle.walks.proofs.Every.{Every, got!, no!, bool!, test!, option!, then!, any!}
+use Rattle.walks.proofs.WalkProof.{composed, listed, viewOf}
 use Rattle.walks.proofs.LayoutProof.{T-is, Placed, layout-ok}
-use Rattle.walks.proofs.GrowProof.{Edge, Kept, not-other}
+use Rattle.walks.proofs.GrowProof.{not-other}
 use Rattle.walks.proofs.BodyProof.{tab, mark-edge, Closing, laid-kept, laid-closing}
-use Rattle.walks.proofs.TableProof.{Pend, Pending, not-listed, Names, Inv′, Inv, On, To, Plain, IsTag, pushRow-ok, add-ok, pushMember-ok, push-tag, pop-tag, tagRow-ok, define-ok, addBody-ok, noted-ok, closeEnum-ok, bareEnum-ok}
+use Rattle.walks.proofs.TableProof.{Pend, Pending, wide-never, not-listed, Inv, On, To, Plain, pushRow-ok, add-ok, pushMember-ok, push-tag, pop-tag, tagRow-ok, define-ok, addBody-ok, noted-ok, closeEnum-ok, bareEnum-ok}
 
 -- ---- the rows of type words
 
@@ -417,10 +416,7 @@ laid-ok : (m : Model) (ps : List Pend) (u : Bool) (first : ℕ) (l : ℕ × List
   → Laid m ps u (laidBody first (l .0) (fieldsOnly first (l .1))) (withMembers (noted n t) (fieldsOnly first (l .1)))
 unfolding Laid noted
 laid-ok m ps u first l t true z i p = (record { names = i .names; kept = λ h. laid-kept m t u first l p (i .kept h) }, λ h. laid-closing m t u first l p (T-is z))
-laid-ok m ps u first l t false z i p = (record { names = noted-ok m ps false t i .names; kept = λ h. absurd (wide-not h) }, λ h. absurd (wide-not h))
-  where
-    wide-not : T (orderly (wide ∷ t .log)) → ⊥
-    wide-not h = unfold orderly in h
+laid-ok m ps u first l t false z i p = (record { names = noted-ok m ps false t i .names; kept = λ h. wide-never (t .log) h }, λ h. wide-never (t .log) h)
 
 -- every name token has a name
 abbrev pub Named : Tokens → Type 0

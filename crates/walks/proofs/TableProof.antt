@@ -4,9 +4,8 @@ use mathlib.Core.Logic.{_≢_, _⊎_, inl, inr}
 use mathlib.Core.List.{List, [], _∷_, _++_}
 use mathlib.Core.Option.{Option, none, some, Option·some-injective, Option·none-ne-some}
 use mathlib.Core.Bool.{Bool, true, false, not, _&&_, _||_}
-use Prim.Native.Nat.{ℕ, zero, suc, _+_, _*_, _≤_, _<_}
+use Prim.Native.Nat.{ℕ, zero, suc, _+_, _≤_, _<_}
 use native.Mathlib.Omega.{arith}
-use native.Mathlib.Decide.{ℕ-discrete}
 use lib.Dec.{T, eqb, leb, eqb→eq, eqb-refl, nleb→lt}
 use lib.ListN.{length, getD, set, getElem?, length-append, length-set}
 use Rattle.definition.specs.Answer.{Answer, got, refused, _>>=_}
@@ -16,13 +15,13 @@ use Rattle.definition.specs.Name.{noName}
 use Rattle.definition.specs.Model.{Model}
 use Rattle.definition.specs.RowKind.{enumKind}
 use Rattle.definition.specs.Row.{Row, void, int, float, bool, pointer, array, composite, enumeration, function, typedef, qualified, Span, nothing, compositeKind, kindOf, rowName, spanOf}
-use Rattle.definition.specs.Table.{Member, Table, State, Event, bodied, used, wide, rowAt, markOf, withTable, withRows, logged, pushRow, pushMember}
+use Rattle.definition.specs.Table.{Member, Table, State, Event, bodied, used, wide, markOf, withTable, withRows, logged, pushRow, pushMember}
 use Rattle.definition.specs.Types.{rowNamed, compositeRow, enumRow, equalRow, add, changedFrom}
-use Rattle.definition.specs.Composite.{withRow, ownMembers, releaseMembers, Body, defineBody, membersOwned, addBody, tagRow, noted}
+use Rattle.definition.specs.Composite.{withRow, ownMembers, releaseMembers, Body, defineBody, addBody, tagRow, noted}
 use Rattle.definition.specs.Enumeration.{enumTagRow, defineEnum, addEnum, bareEnum, closeEnum}
 use Rattle.walks.specs.Condition.{hasBody, hasUse, met, orderly}
-use Rattle.walks.proofs.Every.{Every, got!, no!, bool!, test!, option!, then!, weaker!}
-use Rattle.walks.proofs.WalkProof.{View, composed, listed, other, viewOf, viewAt}
+use Rattle.walks.proofs.Every.{Every, got!, no!, bool!, test!, option!, then!}
+use Rattle.walks.proofs.WalkProof.{composed, listed, other, viewOf, viewAt}
 use Rattle.walks.proofs.LayoutProof.{T-left, T-right, T-is}
 use Rattle.walks.proofs.GrowProof.{RowGrows, fresh, stays, sized, Grows, Edge, Own, Kept, kept-grows, not-other, at-edge}
 use Rattle.walks.proofs.BodyProof.{tab, changed-at, changed-none, Closing, edge-adds, same-grows, closed-kept}
@@ -37,9 +36,9 @@ T-or-right : (a b : Bool) → T b → T (a || b)
 T-or-right true b h = tt
 T-or-right false b h = h
 
-T-or : (a b c d : Bool) → (T a → T c) → (T b → T d) → T (a || b) → T (c || d)
-T-or true b c d f g h = T-or-left c d (f tt)
-T-or false b c d f g h = T-or-right c d (g h)
+pub T-either : {X : Type 0} (a b : Bool) → (T a → X) → (T b → X) → T (a || b) → X
+T-either true b f g h = f tt
+T-either false b f g h = g h
 
 T-not : (a : Bool) → T (not a) → T a → ⊥
 T-not true h k = h
@@ -53,6 +52,16 @@ eqb-false a b h = go (eqb a b) refl
     go true z = absurd (h (eqb→eq a b (T-is z)))
 
 -- ---- a log with more events
+
+-- a tag is met by a body, or by a use, and in no other way
+body-met : (w : ℕ) (l : List Event) → T (hasBody w l) → T (met w l)
+body-met w l h = T-or-left (hasBody w l) (hasUse w l) h
+
+use-met : (w : ℕ) (l : List Event) → T (hasUse w l) → T (met w l)
+use-met w l h = T-or-right (hasBody w l) (hasUse w l) h
+
+pub met-by : {X : Type 0} (w : ℕ) (l : List Event) → (T (hasBody w l) → X) → (T (hasUse w l) → X) → T (met w l) → X
+met-by w l f g h = T-either (hasBody w l) (hasUse w l) f g h
 
 pub record More (l l′ : List Event) : Type 0 where
   pub body : (v : ℕ) → T (hasBody v l) → T (hasBody v l′)
@@ -74,16 +83,21 @@ use-more (bodied w) v l h = h
 use-more (used w) v l h = T-or-right (eqb v w) (hasUse v l) h
 use-more wide v l h = h
 
+-- a union's field that is too wide is never orderly
+pub wide-never : {X : Type 0} (l : List Event) → T (orderly (wide ∷ l)) → X
+unfolding orderly
+wide-never l h = absurd h
+
 order-more : (e : Event) (l : List Event) → T (orderly (e ∷ l)) → T (orderly l)
 unfolding orderly
 order-more (bodied w) l h = T-right (not (met w l)) (orderly l) h
 order-more (used w) l h = h
-order-more wide l h = absurd h
+order-more wide l h = wide-never l h
 
 more-event : (e : Event) (l : List Event) → More l (e ∷ l)
 more-event e l = record {
     body = λ v h. body-more e v l h
-  ; meets = λ v h. T-or (hasBody v l) (hasUse v l) (hasBody v (e ∷ l)) (hasUse v (e ∷ l)) (body-more e v l) (use-more e v l) h
+  ; meets = λ v h. met-by v l (λ k. body-met v (e ∷ l) (body-more e v l k)) (λ k. use-met v (e ∷ l) (use-more e v l k)) h
   ; order = order-more e l }
 
 body-here : (w : ℕ) (l : List Event) → T (hasBody w (bodied w ∷ l))
@@ -498,7 +512,7 @@ module _ (m : Model) (ps : List Pend) where
           before : T (orderly log)
           before = order-more (bodied w) log h
           at : (o : Option ℕ) → viewOf (getD rows n void) ≡ composed u w o → Kept m (tab (set rows n new) (ownMembers (b .fields .first) n (releaseMembers (getD rows n void) n ms)))
-          at (some z) v = not-met w log h (T-or-left (hasBody w log) (hasUse w log) (i .names .bodies n u w z v d))
+          at (some z) v = not-met w log h (body-met w log (i .names .bodies n u w z v d))
           at none v =
             let c = i .kept before in
             let r = row-of (getD rows n void) u w v in
@@ -590,7 +604,7 @@ module _ (m : Model) (ps : List Pend) where
       go : (o : Option ℕ) → On m ps (_>>=_ {A = ℕ × State} (elim o [ some n ↦ got (n, s) | none ↦ pushRow (enumeration w (m .enumSize) nothing) s ])
         (λ r. got (r .0, withTable (r .1) (logged (r .1 .table) (used w)))))
       go none = push! _ (enumeration w (m .enumSize) nothing) s (λ lt. got! (new-enum w (m .enumSize) nothing (used w) s
-        (T-or-right (hasBody w (used w ∷ s .table .log)) (hasUse w (used w ∷ s .table .log)) (use-here w (s .table .log))) lt i))
+        (use-met w (used w ∷ s .table .log) (use-here w (s .table .log))) lt i))
       go (some n) = then! {P = λ x. Inv m ps (x .1 .table)} (got! i) λ x h. got! (log-inv m ps (x .1 .table .rows) (x .1 .table .members) (x .1 .table .log) (used w) h)
 
   -- an enum's tag gets its values: a second body, or one after a use, is not orderly
@@ -610,7 +624,7 @@ module _ (m : Model) (ps : List Pend) where
             (λ z. notOther (ap (λ k. viewOf (getD rows k void)) z ∙ (unfold viewOf in ap viewOf (i .names .first))))
             (λ u x o q. not-both (sym (v .1) ∙ q)) (λ u x z q ne. not-both (sym view ∙ q))
             (λ x z q ne. (let same = sym view ∙ q in let y : w ≡ x = cc in
-              subst (λ b. T (met b (bodied w ∷ log))) y (T-or-left (hasBody w (bodied w ∷ log)) (hasUse w (bodied w ∷ log)) (body-here w log)))) (i .names)
+              subst (λ b. T (met b (bodied w ∷ log))) y (body-met w (bodied w ∷ log) (body-here w log)))) (i .names)
         ; kept = λ h. not-met w log h (i .names .enums n w (v .0) (v .1) d) }
         where
           rows : List Row
@@ -626,5 +640,5 @@ module _ (m : Model) (ps : List Pend) where
         → On m ps (_>>=_ {A = ℕ × State} (elim o [ some n ↦ got (n, s) | none ↦ pushRow (enumeration w bytes nothing) s ]) (λ r. got (r .0, defineEnum w (r .0) bytes e (r .1))))
       go d none z = push! _ (enumeration w bytes nothing) s (λ lt. got!
         (subst (λ l. Inv′ m ps l (s .table .members) (bodied w ∷ s .table .log)) (sym (set-last (s .table .rows) (enumeration w bytes nothing) new))
-          (new-enum w bytes e (bodied w) s (T-or-left (hasBody w (bodied w ∷ s .table .log)) (hasUse w (bodied w ∷ s .table .log)) (body-here w (s .table .log))) lt i)))
+          (new-enum w bytes e (bodied w) s (body-met w (bodied w ∷ s .table .log) (body-here w (s .table .log))) lt i)))
       go d (some n) z = then! {P = λ x. x ≡ (n, s)} (got! refl) λ x q. got! (subst (λ y. Inv m ps (defineEnum w (y .0) bytes e (y .1) .table)) (sym q) (again n d (found-enum w n (s .table) z)))

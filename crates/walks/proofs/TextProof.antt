@@ -1,19 +1,18 @@
 -- The conditions on a text make the reader's log orderly: what is kept of the place in the text and the log.
 use mathlib.Core.Path.{_≡_, refl, sym, _∙_, ap, subst}
-use mathlib.Core.Logic.{_≢_, _⊎_, inl, inr}
 use mathlib.Core.List.{List, [], _∷_}
-use mathlib.Core.Option.{Option, none, some, Option·some-injective, Option·none-ne-some}
+use mathlib.Core.Option.{Option, none, some}
 use mathlib.Core.Bool.{Bool, true, false, not, _&&_, _||_}
 use Prim.Native.Nat.{ℕ, zero, suc, _+_, _-_, _≤_, _<_}
 use native.Mathlib.Omega.{arith}
 use native.Mathlib.Decide.{decLt}
-use lib.Dec.{T, eqb, eqb→eq, eqb-refl}
-use Rattle.definition.specs.Kind.{isName, enumWord, openBrace, closeBrace}
-use Rattle.definition.specs.Token.{Tokens, kindAt, numberAt}
-use Rattle.definition.specs.Specifiers.{isTagWord}
+use lib.Dec.{T, eqb, eqb→eq}
+use Rattle.definition.specs.Kind.{openBrace, closeBrace}
+use Rattle.definition.specs.Token.{Tokens, kindAt}
 use Rattle.definition.specs.Table.{Event, bodied, used, wide}
 use Rattle.walks.specs.Condition.{tagAt, opensBody, usesEnum, oneClosed, openedBy, openedAfter, isClosed, closedBefore, Orderly, noneTooWide, hasBody, hasUse, met, orderly}
-use Rattle.walks.proofs.LayoutProof.{T-left, T-right, T-is}
+use Rattle.walks.proofs.LayoutProof.{T-is}
+use Rattle.walks.proofs.TableProof.{T-either, met-by}
 
 pub T-both : (a b : Bool) → T a → T b → T (a && b)
 T-both true b h k = k
@@ -22,10 +21,6 @@ T-both false b h k = h
 pub T-no : (a : Bool) → (T a → ⊥) → T (not a)
 T-no true h = h tt
 T-no false h = tt
-
-pub T-either : {X : Type 0} (a b : Bool) → (T a → X) → (T b → X) → T (a || b) → X
-T-either true b f g h = f tt
-T-either false b f g h = g h
 
 -- ---- braces
 
@@ -174,7 +169,7 @@ module _ (ts : Tokens) where
   closesTag c qs j w at log o e x =
     let r = closes (j + 3) qs at log x in
     record { depths = r .depths; bodies = λ v h. T-either (eqb v w) (hasBody v log) (λ z. (j, o, e ∙ sym (eqb→eq v w z), now)) (λ z. r .bodies v z) h
-           ; uses = r .uses; order = λ h. T-both (not (met w log)) (orderly log) (T-no (met w log) (λ k. T-either (hasBody w log) (hasUse w log) bodied-twice used-before k)) (r .order h) }
+           ; uses = r .uses; order = λ h. T-both (not (met w log)) (orderly log) (T-no (met w log) (met-by w log bodied-twice used-before)) (r .order h) }
     where
       b : ℕ
       b = x .brace

@@ -1,16 +1,16 @@
 -- Every reader keeps what is kept of the place in the text and the log; so the conditions on a text make its log orderly.
 use mathlib.Core.Path.{_≡_, refl, sym, _∙_, ap, subst}
-use mathlib.Core.Logic.{_≢_, _⊎_, inl, inr}
-use mathlib.Core.List.{List, [], _∷_, _++_}
-use mathlib.Core.Option.{Option, none, some, Option·some-injective, Option·none-ne-some}
+use mathlib.Core.Logic.{_⊎_, inl, inr}
+use mathlib.Core.List.{List, [], _∷_}
+use mathlib.Core.Option.{Option, some}
 use mathlib.Core.Bool.{Bool, true, false, not, _&&_, _||_}
-use Prim.Native.Nat.{ℕ, zero, suc, _+_, _-_, _*_, _≤_, _<_}
+use Prim.Native.Nat.{ℕ, zero, suc, _+_, _-_}
 use native.Mathlib.Omega.{arith}
 use lib.Dec.{T, eqb, ltb, leb, ltb→lt}
-use lib.IntN.{ℤ, pos, negsuc, sucℤ}
+use lib.IntN.{ℤ, pos, sucℤ}
 use lib.Signed.{leZ}
-use lib.ListN.{length, getD, getElem?, drop}
-use Rattle.definition.specs.Answer.{Answer, got, refused, _>>=_}
+use lib.ListN.{length}
+use Rattle.definition.specs.Answer.{Answer}
 use Rattle.definition.specs.Limit.{maxRows, maxMembers, maxValues, maxParameters, maxDeclarations, maxSteps, maxDepth}
 use Rattle.definition.specs.Kind.{isName, isWord, end, attribute, enumWord, unionWord, atomicWord, staticWord, star, openParen, closeParen, openBracket, closeBracket, openBrace, closeBrace, comma, ellipsis, semicolon, colon, equals}
 use Rattle.definition.specs.Name.{noName}
@@ -19,21 +19,20 @@ use Rattle.definition.specs.Range.{ranged}
 use Rattle.definition.specs.Constant.{constant}
 use Rattle.definition.specs.Model.{Model}
 use Rattle.definition.specs.RowKind.{voidKind, arrayKind, functionKind, qualifiedKind}
-use Rattle.definition.specs.Row.{Row, void, int, float, bool, pointer, array, composite, enumeration, function, typedef, qualified, Qualifiers, unqualified, Span, kindOf, targetOf, isSome}
-use Rattle.definition.specs.Table.{Member, Value, Parameter, Declaration, Storage, storageNumber, noStorage, Table, newTable, State, withMembers, Event, wide, rowAt, markOf, skip, movedTo, withTable, pushRow, pushMember, pushValue, pushParameter, pushDeclaration}
-use Rattle.definition.specs.Types.{typedefRow, compositeRow, enumRow, equalRow, add, isUnqualified, merged, qualifiersOf, qualify, resolve, resolvedKind}
-use Rattle.definition.specs.Layout.{layout, noneWide}
-use Rattle.definition.specs.Specifier.{Specifiers, Words, noSpecifiers, storing, qualifying, basedOn, wording, namesType, isStorageWord, storageOf, isQualifierWord, withQualifier, isIgnoredWord, isTypeWord, howMany, total, onlyWord, signs, doubleType, charType, shortType, intType, combine, typeIn, builtin}
-use Rattle.definition.specs.Kind.{complexWord, voidWord, boolWord, floatWord, doubleWord, charWord, shortWord, intWord, longWord}
+use Rattle.definition.specs.Row.{Row, pointer, array, composite, enumeration, function, typedef, Qualifiers, unqualified, Span, kindOf, targetOf, isSome}
+use Rattle.definition.specs.Table.{Member, Value, Parameter, Declaration, Storage, storageNumber, noStorage, Table, State, Event, rowAt, markOf, skip, pushRow, pushMember, pushValue, pushParameter, pushDeclaration}
+use Rattle.definition.specs.Types.{typedefRow, compositeRow, enumRow, equalRow, add, isUnqualified, qualify, resolvedKind}
+use Rattle.definition.specs.Layout.{layout}
+use Rattle.definition.specs.Specifier.{Specifiers, noSpecifiers, storing, qualifying, basedOn, wording, namesType, isStorageWord, storageOf, isQualifierWord, withQualifier, isIgnoredWord, isTypeWord, combine, builtin}
 use Rattle.definition.specs.Grammar.{DeclaratorStep, pointerStep, arrayStep, functionStep, Declarator, named, unnamed, withStep, Levels, stands, needed}
 use Rattle.definition.specs.Specifiers.{namedType, wordsType, baseType, isTagWord, taggedType, specifiersFrom, specifiers}
-use Rattle.definition.specs.Declarator.{addFunction, returned, apply, adjusted, qualifiersFrom, qualifiersHere, oneMoreStep, starsFrom, starred, opensDeclarator, boundOf, boundWords, isVoidList, constantBound, arrayBound, parameter, parametersEnd, parametersFrom, parameters, suffixesFrom, suffixes, direct₁, declarator₁}
-use Rattle.definition.specs.Composite.{fieldsOnly, Body, laidBody, defineBody, addBody, tagRow, widthOf, isComposite, fresh, noted, bitWidth, memberDeclarator, memberDeclarators, anonymousMember, memberDeclaration, membersFrom, body, taggedComposite, untaggedComposite, composite₁}
-use Rattle.definition.specs.Enumeration.{enumBytes, valuesSince, closeEnum, bareEnum, valueNamed, enumeratorValue, enumerator, enumeratorsFrom, enumBody, afterTag, enumeration₁}
+use Rattle.definition.specs.Declarator.{addFunction, returned, apply, adjusted, qualifiersFrom, qualifiersHere, oneMoreStep, starsFrom, opensDeclarator, boundOf, boundWords, isVoidList, constantBound, arrayBound, parameter, parametersEnd, parametersFrom, parameters, suffixesFrom, suffixes, direct₁, declarator₁}
+use Rattle.definition.specs.Composite.{Body, defineBody, addBody, tagRow, widthOf, isComposite, noted, bitWidth, memberDeclarator, memberDeclarators, anonymousMember, memberDeclaration, membersFrom, body, taggedComposite, untaggedComposite, composite₁}
+use Rattle.definition.specs.Enumeration.{closeEnum, bareEnum, valueNamed, enumeratorValue, enumerator, enumeratorsFrom, enumBody, afterTag, enumeration₁}
 use Rattle.definition.specs.Reader.{constantHere, levels, nested, skipInitialiser, initialiser, defineTypedef, isTypedef, declaredRow, declare, inner, initDeclarator, initDeclarators, declaration, separated, declarationsFrom, start, optionalSemicolon, nothingMore, allDeclarations, loneDeclaration}
 use lib.Dec.{eqb→eq}
 use Rattle.definition.specs.Arithmetic as Arithmetic
-use Rattle.definition.specs.Arithmetic.{precedence, noPrecedence, operator, isPrefix, prefixed, chosen}
+use Rattle.definition.specs.Arithmetic.{precedence, noPrecedence, operator, isPrefix, prefixed}
 use Rattle.definition.specs.Range.{exact}
 use Rattle.definition.specs.Constant as Constant
 use Rattle.definition.specs.Constant.{Readers, primary, operand₁, operatorsFrom, chain₁, condition₁, depths}
@@ -41,7 +40,7 @@ use Rattle.definition.specs.Kind.{number, question}
 use Rattle.definition.specs.Table.{bodied, used}
 use Rattle.definition.specs.Enumeration.{enumTagRow, defineEnum, addEnum}
 use Rattle.walks.specs.Condition.{tagAt, opensBody, usesEnum, Orderly, noneTooWide, hasBody, hasUse, orderly}
-use Rattle.walks.proofs.Every.{Every, got!, no!, bool!, test!, option!, then!, any!, weaker!}
+use Rattle.walks.proofs.Every.{Every, got!, no!, bool!, test!, option!, then!, any!}
 use Rattle.walks.proofs.LayoutProof.{T-is}
 use Rattle.walks.proofs.TextProof.{Depths, T-both, not-brace, isBrace, Read, on, into, outside, Ended, closes, notes, usesTag, closesTag}
 

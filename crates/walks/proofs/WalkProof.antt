@@ -3,7 +3,7 @@ use mathlib.Core.Path.{_≡_, refl, sym, _∙_, ap, subst}
 use mathlib.Core.Logic.{_≢_, _⊎_, inl, inr}
 use mathlib.Core.List.{List, [], _∷_, _++_}
 use mathlib.Core.Option.{Option, none, some, Option·some-injective, Option·none-ne-some}
-use mathlib.Core.Bool.{Bool, true, false, not}
+use mathlib.Core.Bool.{Bool, true, false}
 use Prim.Native.Nat.{ℕ, zero, suc, _+_, _*_, _≤_, _<_}
 use native.Mathlib.Nat.{mul-le-mul-right}
 use native.Mathlib.Decide.{decLt}
@@ -14,9 +14,7 @@ use Rattle.definition.specs.Model.{Model}
 use Rattle.definition.specs.Row.{Row, void, int, float, bool, pointer, array, composite, enumeration, function, typedef, qualified, Qualifiers, orZero}
 use Rattle.definition.specs.Table.{Member, Table, rowAt}
 use Rattle.definition.specs.Size.{sizeBy, sizeWithin, sizeOf, times, arraySize}
-use Rattle.walks.specs.Walk.{
-  Shape, whole, unsized, elements, fields, arrayShape, shapeBy, shapeWithin, shapeOf, Step, member, index, Spot, value, bits, bitsOf, landed, picked,
-  enter, indexed, step, stepFrom, walkFrom, walk, Place, placeOf, Inside, Has, NoSharedBit, divides, dividesAt, Walks}
+use Rattle.walks.specs.Walk.{Shape, whole, unsized, elements, fields, shapeBy, shapeWithin, shapeOf, Step, member, index, Spot, value, bits, bitsOf, landed, picked, enter, step, stepFrom, walkFrom, walk, placeOf, Inside, NoSharedBit, divides, dividesAt, Walks}
 
 -- the tests' outcomes as facts
 T-of : {b : Bool} → b ≡ true → T b

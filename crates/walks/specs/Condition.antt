@@ -5,10 +5,14 @@ use mathlib.Core.Bool.{Bool, true, false, not, _&&_, _||_}
 use mathlib.Core.Option.{Option, none, some}
 use Prim.Native.Nat.{ℕ, zero, suc, _+_, _-_}
 use lib.Dec.{T, eqb}
+use lib.ListN.{length}
 use Rattle.definition.specs.Kind.{isName, enumWord, openBrace, closeBrace}
-use Rattle.definition.specs.Token.{Tokens, kindAt, numberAt}
+use Rattle.definition.specs.Answer.{got}
+use Rattle.definition.specs.Text.{Bytes}
+use Rattle.definition.specs.Token.{Tokens, Lexed, kindAt, numberAt}
+use Rattle.definition.specs.Cut.{tokenize}
 use Rattle.definition.specs.Specifiers.{isTagWord}
-use Rattle.definition.specs.Table.{Event, bodied, used, wide}
+use Rattle.definition.specs.Table.{Event, bodied, used, wide, Table}
 
 -- ---- of a text: of all its tokens, those of skipped initialisers too
 
@@ -53,12 +57,34 @@ pub record Orderly (ts : Tokens) : Type 0 where
   pub oneBody : (i j : ℕ) → T (opensBody ts i) → T (opensBody ts j) → tagAt ts i ≡ tagAt ts j → i ≡ j
   pub bodyFirst : (i j : ℕ) → T (usesEnum ts i) → T (opensBody ts j) → tagAt ts i ≡ tagAt ts j → T (closedBefore ts j i)
 
+-- The same as a test.
+unfoldable pub everyBelow : ℕ → (ℕ → Bool) → Bool
+everyBelow zero test = true
+everyBelow (suc n) test = test n && everyBelow n test
+
+abbrev pub sameTag : Tokens → ℕ → ℕ → Bool
+sameTag ts i j = eqb (tagAt ts i) (tagAt ts j)
+
+-- how many tokens there are
+abbrev pub howMany : Tokens → ℕ
+howMany ts = length (ts .kinds)
+
+unfoldable pub isOrderly : Tokens → Bool
+isOrderly ts =
+  everyBelow (howMany ts) (λ i. everyBelow i (λ j. not (opensBody ts i && (opensBody ts j && sameTag ts i j))))
+  && everyBelow (howMany ts) (λ i. everyBelow (howMany ts) (λ j. not (usesEnum ts i && (opensBody ts j && sameTag ts i j)) || closedBefore ts j i))
+
 -- "A union bit-field is held against 8 times its type's size at the moment the union's layout takes it": what the layout noted
 unfoldable pub noneTooWide : List Event → Bool
 noneTooWide [] = true
 noneTooWide (bodied w ∷ l) = noneTooWide l
 noneTooWide (used w ∷ l) = noneTooWide l
 noneTooWide (wide ∷ l) = false
+
+-- The conditions of demand 3, of a text and the table that it gives
+pub record Meets (text : Bytes) (t : Table) : Type 0 where
+  pub tags : (x : Lexed) → tokenize text ≡ got x → Orderly (x .tokens)
+  pub fields : T (noneTooWide (t .log))
 
 -- ---- of what the reader did, which suffices
 

@@ -1,9 +1,10 @@
 -- Each condition of demand 3 is needed: texts that break one of them, and have a walk that ends outside its start type.
 use mathlib.Core.Path.{_≡_, refl}
-use mathlib.Core.List.{List, [], _∷_}
-use mathlib.Core.Bool.{true, false}
+use mathlib.Core.List.{[], _∷_}
+use mathlib.Core.Bool.{Bool, true, false}
 use mathlib.Core.Option.{some}
-use Prim.Native.Nat.{ℕ, _≤_}
+use Prim.Native.Nat.{_≤_}
+use Prim.Native.String.{String}
 use native.Mathlib.Omega.{arith}
 use Rattle.definition.specs.Answer as Answer
 use Rattle.definition.specs.Text as Text
@@ -44,40 +45,65 @@ use Rattle.definition.specs.NameTable as NameTable
 use Rattle.definition.specs.Entry as Entry
 use Rattle.definition.specs.Answer.{Answer, got, refused}
 use Rattle.definition.specs.Text.{bytes}
+use Rattle.definition.specs.Token.{Tokens, Lexed}
+use Rattle.definition.specs.Cut.{tokenize}
 use Rattle.definition.specs.Model.{lp64}
-use Rattle.definition.specs.Table.{Event, bodied, used, wide, Table, newTable}
+use Rattle.definition.specs.Table.{Table, newTable}
 use Rattle.definition.specs.Entry.{Accepted, wholeHeader, readWith}
 use Rattle.walks.specs.Walk as Walk
 use Rattle.walks.specs.Walk.{member, index, value, bits, Walks}
-use Rattle.walks.specs.Condition.{hasBody, hasUse, orderly}
+use Rattle.walks.specs.Condition as Condition
+use Rattle.walks.specs.Condition.{isOrderly, noneTooWide, orderly}
 
 tableOf : Answer Accepted → Table
 tableOf (got a) = a .table
 tableOf (refused n at) = newTable
 
--- rows: 0 void, 1 struct S, 2 char, 3 struct T, 4 int. Members: 0 S.a as it was, 1 T.s, 2 T.b, 3 S.a
-abbrev twoBodies : Table
-twoBodies = tableOf (readWith lp64 wholeHeader (bytes "struct S{char a;};struct T{struct S s;char b;};struct S{int a;};"))
+tokensOf : Answer Lexed → Tokens
+tokensOf (got x) = x .tokens
+tokensOf (refused n at) = record { kinds = []; numbers = [] }
 
--- rows: 0 void, 1 enum E, 2 struct T. Members: 0 T.e
-abbrev earlyEnum : Table
-earlyEnum = tableOf (readWith lp64 wholeHeader (bytes "enum E;struct T{enum E e;};enum E{A=1<<40};"))
+-- under lp64: the table of a text, and whether it meets the conditions on its tags and on its union bit-fields
+abbrev table : String → Table
+table s = tableOf (readWith lp64 wholeHeader (bytes s))
 
--- rows: 0 void, 1 char, 2 the union. Members: 0 its field
-abbrev wideField : Table
-wideField = tableOf (readWith lp64 wholeHeader (bytes "union{char a:9;};"))
+abbrev orderlyText : String → Bool
+orderlyText s = isOrderly (tokensOf (tokenize (bytes s)))
 
--- rows: 0 void, 1 struct A, 2 int, 3 int[], 4 struct B, 5 struct A[2], 6 int[3]
-abbrev ordinary : Table
-ordinary = tableOf (readWith lp64 wholeHeader (bytes "struct A{int n;int t[];};struct B{struct A a[2];int b[3];};"))
+-- T.s ends at 32 of 16 bits. Rows: 0 void, 1 struct S, 2 char, 3 struct T, 4 int; members: 0 S.a as it was, 1 T.s, 2 T.b, 3 S.a
+abbrev twoBodies : String
+twoBodies = "struct S{char a;};struct T{struct S s;char b;};struct S{int a;};"
 
--- Nothing but the one condition is broken, as the log shows, and T.s ends at 32 of 16 bits; T.e at 64 of 32; the field at 9 of 8.
+-- T.e ends at 64 of 32 bits. Rows: 0 void, 1 enum E, 2 struct T; members: 0 T.e
+abbrev earlyEnum : String
+earlyEnum = "enum E;struct T{enum E e;};enum E{A=1<<40};"
+
+-- the field ends at 9 of 8 bits. Rows: 0 void, 1 char, 2 the union; members: 0 its field
+abbrev wideField : String
+wideField = "union{char a:9;};"
+
+-- Rows: 0 void, 1 struct A, 2 int, 3 int[], 4 enum E, 5 struct B, 6 struct A[2], 7 int[3]; members: 0 A.n, 1 A.t, 2 B.a, 3 B.b, 4 B.e
+abbrev ordinary : String
+ordinary = "struct A{int n;int t[];};enum E{X};struct B{struct A a[2];int b[3];enum E e;};"
+
+-- a use inside a body of its tag, and a body in an initialiser, which the reader skips
+abbrev inside : String
+inside = "enum E{X};struct F{enum F*e;};"
+
+abbrev skipped : String
+skipped = "struct S{int a;};int x=struct S{1};"
+
+-- For each condition a text that breaks it alone and has a walk that ends outside its start type; and texts that meet the conditions, or break
+-- those on the text only.
 needed :
-    ((twoBodies .log ≡ bodied 65543 ∷ bodied 65561 ∷ bodied 65543 ∷ []) × (Walks lp64 twoBodies → ⊥))
-  × ((earlyEnum .log ≡ bodied 65541 ∷ bodied 65550 ∷ used 65541 ∷ used 65541 ∷ []) × (Walks lp64 earlyEnum → ⊥))
-  × ((wideField .log ≡ wide ∷ []) × (Walks lp64 wideField → ⊥))
-  × (orderly (ordinary .log) ≡ true) × (Walk.walk lp64 ordinary 4 (member 3 ∷ index 2 ∷ []) ≡ some (value 2 128))
-unfolding tableOf hasBody hasUse orderly Walk.shapeBy Walk.shapeWithin Walk.step Walk.walkFrom
+    ((orderlyText twoBodies ≡ false) × (noneTooWide (table twoBodies .log) ≡ true) × (Walks lp64 (table twoBodies) → ⊥))
+  × ((orderlyText earlyEnum ≡ false) × (noneTooWide (table earlyEnum .log) ≡ true) × (Walks lp64 (table earlyEnum) → ⊥))
+  × ((orderlyText wideField ≡ true) × (noneTooWide (table wideField .log) ≡ false) × (Walks lp64 (table wideField) → ⊥))
+  × ((orderlyText ordinary ≡ true) × (orderly (table ordinary .log) ≡ true) × (Walk.walk lp64 (table ordinary) 5 (member 3 ∷ index 2 ∷ []) ≡ some (value 2 128)))
+  × ((orderlyText inside ≡ false) × (orderly (table inside .log) ≡ false))
+  × ((orderlyText skipped ≡ false) × (orderly (table skipped .log) ≡ true))
+unfolding tableOf tokensOf Condition.opensBody Condition.usesEnum Condition.openedAfter Condition.everyBelow Condition.isOrderly Condition.noneTooWide
+    Condition.hasBody Condition.hasUse Condition.orderly Walk.shapeBy Walk.shapeWithin Walk.step Walk.walkFrom
     Answer._>>=_ Text.bytes Text.same Kind.isName Kind.isWord Name.nameOf Name.offsetOf Name.lengthOf Token.columns Token.here Token.need Model.lp64
     Model.ilp32 Model.llp64 Model.modelOf Row.qualifierBits Row.kindOf Row.targetOf Row.flagsOf Row.rowName Row.spanOf Row.extentOf
     Table.storageNumber Table.markOf Table.carrying Table.pushRow Table.pushMember Table.pushValue Table.pushParameter Table.pushDeclaration
@@ -122,7 +148,7 @@ unfolding tableOf hasBody hasUse orderly Walk.shapeBy Walk.shapeWithin Walk.step
     Cut.cutAll Cut.cut Cut.aboveAscii Cut.checkBytes Cut.tokenize NameTable.heldNames NameTable.isHeld NameTable.namesAmong NameTable.nameTable
     Entry.parse Entry.readWith Entry.read Entry.told Entry.outcome
 needed =
-    ((refl, λ w. (let h : 32 ≤ 16 = w .inside 3 2 refl (member 1 ∷ []) (value 1 0) refl in omega arith))
-  , (refl, λ w. (let h : 64 ≤ 32 = w .inside 2 4 refl (member 0 ∷ []) (value 1 0) refl in omega arith))
-  , (refl, λ w. (let h : 9 ≤ 8 = w .inside 2 1 refl (member 0 ∷ []) (bits 0 9) refl in omega arith))
-  , refl , refl)
+    ((refl, refl, λ w. (let h : 32 ≤ 16 = w .inside 3 2 refl (member 1 ∷ []) (value 1 0) refl in omega arith))
+  , (refl, refl, λ w. (let h : 64 ≤ 32 = w .inside 2 4 refl (member 0 ∷ []) (value 1 0) refl in omega arith))
+  , (refl, refl, λ w. (let h : 9 ≤ 8 = w .inside 2 1 refl (member 0 ∷ []) (bits 0 9) refl in omega arith))
+  , (refl, refl, refl), (refl, refl), (refl, refl))
