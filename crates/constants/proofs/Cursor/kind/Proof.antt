@@ -1,0 +1,19 @@
+use borrow.Author.Needs.{needs}
+use Rattle.constants.proofs.Cursor.kind.Statement.{statement}
+use Rattle.constants.proofs.Cursor.kind.Tie as tie
+use lib.ListN.{List·getD-eq-default}
+
+mul-result : tie.Need-mul-result
+mul-result c = search needs
+
+shared-slice-read-result : tie.Need-shared-slice-read-result
+shared-slice-read-result c = search needs
+
+returns : tie.Need-returns
+returns c = search needs
+
+returns-2 : tie.Need-returns-2
+returns-2 c = let h = c .if1 .left in record { is = simp List·getD-eq-default }
+
+pub kind-spec : {M : Type 1} → statement M
+kind-spec = tie.close (tie.spec mul-result shared-slice-read-result returns returns-2)

@@ -1,0 +1,22 @@
+-- A step of the search for a name. Assumes nothing.
+use mathlib.Core.Path.{_≡_, refl, ap, _∙_}
+use mathlib.Core.List.{List}
+use mathlib.Core.Bool.{true, false}
+use mathlib.Core.Option.{Option, some}
+use Prim.Native.Nat.{ℕ, zero, suc, _-_, _<_}
+use native.Mathlib.Omega.{arith}
+use borrow.Author.Tests.{eq-eqb, ne-eqb}
+use lib.IntN.{ℤ, pos}
+use lib.ListN.{getD}
+use Rattle.constants.specs.Lookup.{nameIn, lastValue}
+
+module _ (w : List ℕ) (v : List ℤ) (name : ℕ) where
+  pub hit : (k : ℕ) → 0 < k → nameIn w (k - 1) ≡ name → lastValue w v k name ≡ some (getD v (k - 1) (pos 0))
+  unfolding lastValue
+  hit zero p e = absurd (omega arith)
+  hit (suc k) p e = let h : suc k - 1 ≡ k = omega arith in rw h (rw (eq-eqb (nameIn w k) name (rw h at e), lastValue))
+
+  pub miss : (k : ℕ) → 0 < k → (nameIn w (k - 1) ≡ name → ⊥) → lastValue w v k name ≡ lastValue w v (k - 1) name
+  unfolding lastValue
+  miss zero p e = absurd (omega arith)
+  miss (suc k) p e = let h : suc k - 1 ≡ k = omega arith in rw h (rw (ne-eqb (nameIn w k) name (rw h at e), lastValue))

@@ -1,0 +1,79 @@
+use Rattle.constants.proofs.value_of.Statement.{statement}
+use Rattle.constants.proofs.value_of.Tie as tie
+use borrow.Author.Needs.{needs, sfits-of}
+use native.Mathlib.Omega.{arith}
+use native.Mathlib.Nat.{le-refl}
+use mathlib.Core.Path.{_≡_, refl, sym, ap, _∙_}
+use Prim.Native.Nat.{_≤_}
+use Rattle.arithmetic.proofs.Told.{back}
+use Rattle.constants.specs.Lookup.{lastValue, found}
+use Rattle.constants.proofs.Search.{hit, miss}
+
+abbrev Inv-loop : tie.InvT-loop
+Inv-loop words values count name k₀ k = (k ≤ count) × (lastValue words values count name ≡ lastValue words values k name)
+
+abbrev μ-loop : tie.MeasureT-loop
+μ-loop words values count name k₀ k = k
+
+loop-holds : tie.Need-loop-holds Inv-loop μ-loop
+loop-holds c = (le-refl _, refl)
+
+sub-k : tie.Need-sub-k Inv-loop μ-loop
+sub-k c = c .loop-test .taken
+
+mul-word-at : tie.Need-mul-word-at Inv-loop μ-loop
+mul-word-at c = omega (arith, c .before .before .before .fits .count, c .before .loop .inv .0)
+
+add-word-at : tie.Need-add-word-at Inv-loop μ-loop
+add-word-at c = omega (arith, c .before .before .before .fits .count, c .before .loop .inv .0)
+
+add-word-at-2 : tie.Need-add-word-at-2 Inv-loop μ-loop
+add-word-at-2 c = omega (arith, c .before .before .before .fits .count, c .before .loop .inv .0)
+
+word-at-requires : tie.Need-word-at-requires Inv-loop μ-loop
+word-at-requires c κs = search needs
+
+wide-requires : tie.Need-wide-requires Inv-loop μ-loop
+wide-requires c κs = search needs
+
+signed-at-requires : tie.Need-signed-at-requires Inv-loop μ-loop
+signed-at-requires c κs = search needs
+
+returns : tie.Need-returns Inv-loop μ-loop
+unfolding found
+returns c =
+    rw (back (sfits-of (c .signed-at .ok)), c .signed-at .ensures) (sym (c .before .before .before .before .before .loop .inv .1 ∙ hit (c .before .before .before .before .before .before .before .args .words .now) (c .before .before .before .before .before .before .before .args .values .now) (c .before .before .before .before .before .before .before .args .name) (c .before .before .before .before .before .loop .k) (c .before .before .before .before .loop-test .taken) (sym (c .before .before .wide .ensures ∙ c .before .before .before .word-at .ensures) ∙ c .before .if1 .taken)))
+
+loop-less : tie.Need-loop-less Inv-loop μ-loop
+loop-less c = omega (arith, c .before .before .before .loop-test .taken)
+
+loop-again : tie.Need-loop-again Inv-loop μ-loop
+loop-again c = (
+  omega (arith, c .before .before .before .before .loop .inv .0),
+  c .before .before .before .before .loop .inv .1 ∙ miss (c .before .before .before .before .before .before .args .words .now) (c .before .before .before .before .before .before .args .values .now) (c .before .before .before .before .before .before .args .name) (c .before .before .before .before .loop .k) (c .before .before .before .loop-test .taken) (λ e. c .if1 .left (c .before .wide .ensures ∙ c .before .before .word-at .ensures ∙ e)),
+)
+
+returns-2 : tie.Need-returns-2 Inv-loop μ-loop
+unfolding found lastValue
+returns-2 c =
+    let e : c .before .loop .k ≡ 0 = omega (arith, c .loop-test .left) in
+    sym (c .before .loop .inv .1 ∙ ap (λ k. lastValue (c .before .before .before .args .words .now) (c .before .before .before .args .values .now) k (c .before .before .before .args .name)) e)
+
+pub value-of-spec : {M : Type 1} → statement M
+value-of-spec =
+    tie.close
+    (tie.spec
+    Inv-loop
+    μ-loop
+    loop-holds
+    sub-k
+    mul-word-at
+    add-word-at
+    add-word-at-2
+    word-at-requires
+    wide-requires
+    signed-at-requires
+    returns
+    loop-less
+    loop-again
+    returns-2)

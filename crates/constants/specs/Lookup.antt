@@ -1,0 +1,28 @@
+-- Where the enumerators' names and values stand in the lent slices, and the value of a name.
+use mathlib.Core.List.{List}
+use mathlib.Core.Bool.{Bool, true, false}
+use mathlib.Core.Option.{Option, none, some}
+use Prim.Native.Nat.{ℕ, zero, suc, _+_, _*_}
+use lib.Dec.{eqb}
+use lib.IntN.{ℤ, pos}
+use lib.ListN.{getD}
+use Rattle.definition.specs.Limit.{maxRows, maxMembers}
+use Rattle.constants.specs.declared.Found.{Found}
+use Rattle.constants.specs.declared.Found.the-variants.{Known, Unknown}
+
+-- the first number of the value entries: after the rows and the members; entry k has its row, then its name
+abbrev pub valuesStart : ℕ
+valuesStart = 6 * maxRows + 4 * maxMembers
+
+abbrev pub nameIn : List ℕ → ℕ → ℕ
+nameIn w k = getD w (valuesStart + 2 * k + 1) 0
+
+-- "the last enumerator of a spelling winning", among the first so many entries
+unfoldable pub lastValue : List ℕ → List ℤ → ℕ → ℕ → Option ℤ
+lastValue w v zero name = none
+lastValue w v (suc k) name = elim (eqb (nameIn w k) name) [ true ↦ some (getD v k (pos 0)) | false ↦ lastValue w v k name ]
+
+-- what a search answers
+unfoldable pub found : Found → Option ℤ
+found (Known z) = some z
+found Unknown = none

@@ -1,0 +1,319 @@
+// Constant expressions over the columns of tokens and the enumerators found so far, equal to the definition of the same names.
+use arithmetic::Number;
+ghost use mathlib.Core.Path.{_≡_};
+ghost use mathlib.Core.Option.{some};
+ghost use Prim.Native.Nat.{_+_, _<_, _^_};
+ghost use lib.IntN.{pos};
+ghost use lib.ListN.{getD};
+ghost use Rattle.definition.specs.Range.{exact};
+ghost use Rattle.definition.specs.Constant.{level, constant};
+ghost use Rattle.arithmetic.specs.Outcome.{answer};
+ghost use Rattle.constants.specs.Lookup.{lastValue, found};
+ghost use Rattle.constants.specs.Reading.{read, tokens, Peek, Settles, ReadsPrimary};
+
+// Kinds of tokens.
+const NUMBER: u32 = 1;
+
+const FIRST_NAME: u32 = 4;
+
+const LAST_NAME: u32 = 24;
+
+const OPEN_PAREN: u32 = 62;
+
+const CLOSE_PAREN: u32 = 63;
+
+const COLON: u32 = 71;
+
+const QUESTION: u32 = 72;
+
+// Refusals.
+const OUT_OF_RANGE: u32 = 8;
+
+const TOO_DEEP: u32 = 9;
+
+const MISSING_MARK: u32 = 10;
+
+const DIVISION_BY_ZERO: u32 = 22;
+
+const NO_CONSTANT: u32 = 23;
+
+// Depths 0 to 64.
+const DEPTHS: u32 = 65;
+// Below every operator's precedence.
+const NO_PRECEDENCE: u32 = 0;
+// The first number of the value entries in the lent 32-bit slice.
+const VALUES: usize = 22528;
+
+const MOST: u64 = 9223372036854775807;
+
+// A place among the tokens.
+pub struct Cursor {
+    pub at: usize,
+}
+
+pub enum Reading {
+    Value(Cursor, i64),
+    Refused(u32, usize),
+}
+
+pub enum Found {
+    Known(i64),
+    Unknown,
+}
+
+impl Cursor {
+    // The kind of the token here; 0 past the last.
+    pub fn kind(self, kinds: &[u32]) -> u32
+        ensures { λ r. ⌜ Peek (now (kinds .entry)) (self .at) r ⌝ }
+    {
+        let at = self.at;
+        if at < kinds.len() {
+            return kinds[at];
+        }
+        0
+    }
+
+    // Its number; 0 past the last.
+    pub fn number(self, numbers: &[u64]) -> u64
+        ensures { λ r. ⌜ r ≡ getD (now (numbers .entry)) (self .at) 0 ⌝ }
+    {
+        let at = self.at;
+        if at < numbers.len() {
+            return numbers[at];
+        }
+        0
+    }
+
+    pub fn next(self) -> Cursor
+        requires { ⌜ self .at + 1 < 2 ^ 64 ⌝ }
+        ensures { λ r. ⌜ r .at ≡ self .at + 1 ⌝ }
+    {
+        Cursor { at: self.at + 1 }
+    }
+}
+
+// A number of the lent 32-bit slice; 0 past the last.
+fn word_at(words: &[u32], i: usize) -> u32
+    ensures { λ r. ⌜ r ≡ getD (now (words .entry)) i 0 ⌝ }
+{
+    if i < words.len() {
+        return words[i];
+    }
+    0
+}
+
+// A number of the lent signed slice; 0 past the last.
+fn signed_at(values: &[i64], i: usize) -> i64
+    ensures { λ r. ⌜ r ≡ getD (now (values .entry)) i (pos 0) ⌝ }
+{
+    if i < values.len() {
+        return values[i];
+    }
+    0
+}
+
+fn wide(x: u32) -> u64
+    ensures { λ r. ⌜ r ≡ x ⌝ }
+{
+    x as u64
+}
+
+// The value of the last of `count` enumerators that has a name.
+pub fn value_of(words: &[u32], values: &[i64], count: u32, name: u64) -> Found
+    ensures { λ r. ⌜ found r ≡ lastValue (now (words .entry)) (now (values .entry)) count name ⌝ }
+{
+    let mut k = count as usize;
+    while 0 < k {
+        k = k - 1;
+        if wide(word_at(words, VALUES + 2 * k + 1)) == name {
+            return Found::Known(signed_at(values, k));
+        }
+    }
+    Found::Unknown
+}
+
+// A literal's value.
+pub fn literal(m: u64) -> Number
+    ensures { λ r. ⌜ answer r ≡ exact (some (pos m)) ⌝ }
+{
+    if MOST < m {
+        return Number::OutOfRange;
+    }
+    Number::Value(m as i64)
+}
+
+// A value with what follows it, or its refusal at `at`.
+pub fn settled(n: Number, next: Cursor, at: usize) -> Reading
+    ensures { λ r. ⌜ Settles n (next .at) at r ⌝ }
+{
+    match n {
+        Number::Value(z) => Reading::Value(next, z),
+        Number::OutOfRange => Reading::Refused(OUT_OF_RANGE, at),
+        Number::DivisionByZero => Reading::Refused(DIVISION_BY_ZERO, at),
+    }
+}
+
+// A literal, or an enumerator's name.
+pub fn primary_value(
+    kinds: &[u32],
+    numbers: &[u64],
+    words: &[u32],
+    values: &[i64],
+    count: u32,
+    c: Cursor,
+) -> Reading
+    ensures { λ r. ⌜ ReadsPrimary (tokens (now (kinds .entry)) (now (numbers .entry))) (lastValue (now (words .entry)) (now (values .entry)) count) (c .at) r ⌝ }
+{
+    let at = c.at;
+    let k = c.kind(kinds);
+    if k == NUMBER {
+        return settled(literal(c.number(numbers)), c.next(), at);
+    }
+    if k < FIRST_NAME {
+        return Reading::Refused(NO_CONSTANT, at);
+    }
+    if LAST_NAME < k {
+        return Reading::Refused(NO_CONSTANT, at);
+    }
+    let f = value_of(words, values, count, c.number(numbers));
+    let Found::Known(z) = f else {
+        return Reading::Refused(NO_CONSTANT, at);
+    };
+    Reading::Value(c.next(), z)
+}
+
+// An operand: a prefix and its operand, a condition in parentheses, a literal or a name.
+pub fn unary(
+    kinds: &[u32],
+    numbers: &[u64],
+    words: &[u32],
+    values: &[i64],
+    count: u32,
+    c: Cursor,
+    room: u32,
+) -> Reading
+    ensures { λ r. ⌜ read r ≡ level (tokens (now (kinds .entry)) (now (numbers .entry))) (lastValue (now (words .entry)) (now (values .entry)) count) room .operand (c .at) ⌝ }
+{
+    let at = c.at;
+    if room == 0 {
+        return Reading::Refused(TOO_DEEP, at);
+    }
+    let k = c.kind(kinds);
+    if operators::is_prefix(k) {
+        let r = unary(kinds, numbers, words, values, count, c.next(), room - 1);
+        let Reading::Value(t, x) = r else {
+            return r;
+        };
+        return settled(operators::prefix(k, x), t, at);
+    }
+    if k == OPEN_PAREN {
+        let r = conditional(kinds, numbers, words, values, count, c.next(), room - 1);
+        let Reading::Value(t, x) = r else {
+            return r;
+        };
+        let p = t.at;
+        if t.kind(kinds) != CLOSE_PAREN {
+            return Reading::Refused(MISSING_MARK, p);
+        }
+        return Reading::Value(t.next(), x);
+    }
+    primary_value(kinds, numbers, words, values, count, c)
+}
+
+// A chain of operators that bind tighter than `low`, from the left.
+pub fn binary(
+    kinds: &[u32],
+    numbers: &[u64],
+    words: &[u32],
+    values: &[i64],
+    count: u32,
+    c: Cursor,
+    low: u32,
+    room: u32,
+) -> Reading
+    ensures { λ r. ⌜ read r ≡ level (tokens (now (kinds .entry)) (now (numbers .entry))) (lastValue (now (words .entry)) (now (values .entry)) count) room .chain low (c .at) ⌝ }
+{
+    let start = c.at;
+    if room == 0 {
+        return Reading::Refused(TOO_DEEP, start);
+    }
+    let r = unary(kinds, numbers, words, values, count, c, room);
+    let Reading::Value(t, x) = r else {
+        return r;
+    };
+    let mut s = t;
+    let mut left = x;
+    loop {
+        let at = s.at;
+        let k = s.kind(kinds);
+        let p = operators::precedence_of(k);
+        if p <= low {
+            return Reading::Value(s, left);
+        }
+        let q = binary(kinds, numbers, words, values, count, s.next(), p, room - 1);
+        let Reading::Value(u, y) = q else {
+            return q;
+        };
+        let n = settled(operators::operate(k, left, y), u, at);
+        let Reading::Value(e, z) = n else {
+            return n;
+        };
+        s = e;
+        left = z;
+    }
+}
+
+// A chain, or a chain, `?`, a condition, `:` and a condition. Every arm is evaluated.
+pub fn conditional(
+    kinds: &[u32],
+    numbers: &[u64],
+    words: &[u32],
+    values: &[i64],
+    count: u32,
+    c: Cursor,
+    room: u32,
+) -> Reading
+    ensures { λ r. ⌜ read r ≡ level (tokens (now (kinds .entry)) (now (numbers .entry))) (lastValue (now (words .entry)) (now (values .entry)) count) room .condition (c .at) ⌝ }
+{
+    let start = c.at;
+    if room == 0 {
+        return Reading::Refused(TOO_DEEP, start);
+    }
+    let r = binary(kinds, numbers, words, values, count, c, NO_PRECEDENCE, room);
+    let Reading::Value(t, x) = r else {
+        return r;
+    };
+    if t.kind(kinds) != QUESTION {
+        return Reading::Value(t, x);
+    }
+    let a = conditional(kinds, numbers, words, values, count, t.next(), room - 1);
+    let Reading::Value(u, y) = a else {
+        return a;
+    };
+    let p = u.at;
+    if u.kind(kinds) != COLON {
+        return Reading::Refused(MISSING_MARK, p);
+    }
+    let b = conditional(kinds, numbers, words, values, count, u.next(), room - 1);
+    let Reading::Value(e, z) = b else {
+        return b;
+    };
+    if x == 0 {
+        return Reading::Value(e, z);
+    }
+    Reading::Value(e, y)
+}
+
+// The constant at a cursor: its value and the cursor after it, or its refusal.
+pub fn constant_at(
+    kinds: &[u32],
+    numbers: &[u64],
+    words: &[u32],
+    values: &[i64],
+    count: u32,
+    c: Cursor,
+) -> Reading
+    ensures { λ r. ⌜ read r ≡ constant (tokens (now (kinds .entry)) (now (numbers .entry))) (lastValue (now (words .entry)) (now (values .entry)) count) (c .at) ⌝ }
+{
+    conditional(kinds, numbers, words, values, count, c, DEPTHS)
+}
