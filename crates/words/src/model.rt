@@ -115,7 +115,7 @@ impl Model {
             char_signed: true,
             short: 2,
             int: 4,
-            long: 4,
+            long: 4, // as `int`
             long_long: 8,
             pointer: 8,
             float: 4,
