@@ -12,7 +12,6 @@ use Rattle.definition.specs.Row.{Row, Qualifiers, bit}
 use Rattle.definition.specs.Table.{Storage}
 use Rattle.definition.specs.Specifier.{Specifiers, isTypeWord}
 use Rattle.words.specs.declared.types.BaseRow.{BaseRow}
-use Rattle.words.specs.declared.types.Known.{Known}
 use Rattle.words.specs.declared.types.Known.the-variants.{Row as Known·Row, Nothing}
 use Rattle.words.specs.Meaning.{numbers, known}
 

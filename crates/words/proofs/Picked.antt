@@ -1,5 +1,5 @@
 -- How an answer follows a definition, test by test, from the goal inwards: r is what some function f makes of the definition's answer. Assumes nothing.
-use mathlib.Core.Path.{_≡_, refl}
+use mathlib.Core.Path.{_≡_}
 use mathlib.Core.Bool.{Bool, true, false}
 use Prim.Native.Nat.{ℕ, _≤_, _<_}
 use lib.Dec.{ltb, eqb}

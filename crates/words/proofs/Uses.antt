@@ -1,5 +1,5 @@
 -- What callers use: how many words were read, numbers back to values, and the rows that words make. Assumes nothing.
-use mathlib.Core.Path.{_≡_, refl, ap}
+use mathlib.Core.Path.{_≡_, refl}
 use mathlib.Core.List.{List, [], _∷_}
 use mathlib.Core.Bool.{Bool, true, false, _&&_, _||_}
 use mathlib.Core.Option.{Option, none, some}
@@ -7,14 +7,12 @@ use Prim.Native.Nat.{ℕ, zero, suc, _+_, _-_, _≤_}
 use native.Mathlib.Omega.{arith}
 use lib.ListN.{getD, set}
 use lib.Dec.{eqb, ltb, lit≤}
-use Rattle.definition.specs.Name.{noName}
 use Rattle.definition.specs.Kind.{voidWord, charWord, shortWord, intWord, longWord, floatWord, doubleWord, boolWord, complexWord}
 use Rattle.definition.specs.Model.{Model}
 use Rattle.definition.specs.Row.{Row, void, int, float, bool, Qualifiers, nothing, qualifierBits, targetOf, rowName, spanOf}
 use Rattle.definition.specs.Table.{Storage, noStorage, typedefStorage, externStorage, staticStorage, autoStorage, storageNumber}
 use Rattle.definition.specs.Specifier.{Words, noWords, howMany, withWord, total, onlyWord, signs, combine, doubleType, charType, shortType, intType, builtin, typeIn}
 use Rattle.words.specs.declared.types.BaseRow.{BaseRow}
-use Rattle.words.specs.declared.types.Known.{Known}
 use Rattle.words.specs.declared.types.Known.the-variants.{Row as Known·Row, Nothing}
 use Rattle.words.specs.Meaning.{numbers, known, storageNumbered, qualifiersIn}
 use Rattle.words.specs.AtMost.{AtMost}

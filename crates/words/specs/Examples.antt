@@ -1,12 +1,12 @@
 -- What some words make.
 use mathlib.Core.Path.{_≡_, refl}
 use mathlib.Core.List.{List, [], _∷_}
-use mathlib.Core.Bool.{Bool, true, false}
-use mathlib.Core.Option.{Option, none, some}
+use mathlib.Core.Bool.{true, false}
+use mathlib.Core.Option.{none, some}
 use Prim.Native.Nat.{ℕ}
 use Rattle.definition.specs.Kind.{charWord, shortWord, intWord, longWord, doubleWord, signedWord, unsignedWord, sizeName}
 use Rattle.definition.specs.Model.{Model, lp64, ilp32, llp64}
-use Rattle.definition.specs.Row.{Row, int, float}
+use Rattle.definition.specs.Row.{int, float}
 use Rattle.definition.specs.Specifier.{Words, noWords, withWord, total, combine, doubleType, charType, shortType, intType, builtin, typeIn}
 
 -- words as they are read

@@ -1,7 +1,6 @@
 -- Rows that are their kind, flags and extent, and no more.
 use mathlib.Core.Path.{_≡_}
 use mathlib.Core.Option.{Option, some}
-use Prim.Native.Nat.{ℕ}
 use Rattle.definition.specs.Name.{noName}
 use Rattle.definition.specs.Row.{Row, nothing, targetOf, rowName, spanOf}
 use Rattle.words.specs.declared.types.BaseRow.{BaseRow}

@@ -1,7 +1,7 @@
+-- `builtin`: at a name the definition's list computes; at any other kind no entry is its. Assumes nothing.
 use borrow.Author.Needs.{needs}
 use Rattle.words.proofs.types.builtin.Statement.{statement}
 use Rattle.words.proofs.types.builtin.Tie as tie
-use mathlib.Core.Path.{refl, sym, _∙_}
 use Rattle.words.specs.Meaning.{known}
 use Rattle.definition.specs.Specifier.{builtin, typeIn}
 use Rattle.words.proofs.Laws.{row!, nothing! }

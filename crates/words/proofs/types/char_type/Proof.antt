@@ -1,7 +1,7 @@
 use borrow.Author.Needs.{needs}
 use Rattle.words.proofs.types.char_type.Statement.{statement}
 use Rattle.words.proofs.types.char_type.Tie as tie
-use mathlib.Core.Path.{refl, sym, _∙_}
+use mathlib.Core.Path.{sym, _∙_}
 use Rattle.words.specs.Meaning.{known}
 use Rattle.definition.specs.Specifier.{charType}
 use Rattle.words.proofs.Laws.{row!, nothing! }

@@ -1,7 +1,7 @@
+-- `combine`: each return follows the definition's tests in their order, up to the one that was taken. Assumes nothing.
 use borrow.Author.Needs.{needs}
 use Rattle.words.proofs.types.combine.Statement.{statement}
 use Rattle.words.proofs.types.combine.Tie as tie
-use mathlib.Core.Path.{refl, sym, _∙_}
 use Rattle.words.specs.Meaning.{known}
 use Rattle.definition.specs.Row.{void, bool, float}
 use Rattle.definition.specs.Specifier.{combine}

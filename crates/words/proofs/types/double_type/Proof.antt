@@ -1,7 +1,6 @@
 use borrow.Author.Needs.{needs}
 use Rattle.words.proofs.types.double_type.Statement.{statement}
 use Rattle.words.proofs.types.double_type.Tie as tie
-use mathlib.Core.Path.{refl, sym, _∙_}
 use Rattle.words.specs.Meaning.{known}
 use Rattle.definition.specs.Specifier.{doubleType}
 use Rattle.words.proofs.Laws.{row!, nothing! }

@@ -1,7 +1,8 @@
+-- `int_type`: the test of the sums, then how many `long` there are. Assumes nothing.
 use borrow.Author.Needs.{needs}
 use Rattle.words.proofs.types.int_type.Statement.{statement}
 use Rattle.words.proofs.types.int_type.Tie as tie
-use mathlib.Core.Path.{refl, sym, _∙_}
+use mathlib.Core.Path.{refl}
 use Rattle.words.specs.Meaning.{known}
 use Rattle.definition.specs.Specifier.{intType}
 use Rattle.words.proofs.Laws.{row!, nothing!, unlike}

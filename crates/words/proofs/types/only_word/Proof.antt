@@ -1,7 +1,7 @@
 use borrow.Author.Needs.{needs}
 use Rattle.words.proofs.types.only_word.Statement.{statement}
 use Rattle.words.proofs.types.only_word.Tie as tie
-use mathlib.Core.Path.{refl, sym, _∙_}
+use mathlib.Core.Path.{sym, _∙_}
 use Rattle.words.specs.Meaning.{known}
 use Rattle.words.proofs.Laws.{row!, nothing! }
 use Rattle.words.proofs.Picked.{eq+, eq-}

@@ -1,7 +1,7 @@
+-- `total`: eleven 32-bit counts fit 64 bits. Assumes nothing.
 use borrow.Author.Needs.{needs}
 use Rattle.words.proofs.counts.Words.total.Statement.{statement}
 use Rattle.words.proofs.counts.Words.total.Tie as tie
-use mathlib.Core.Path.{refl, sym, _∙_}
 use native.Mathlib.Omega.{arith}
 use Rattle.definition.specs.Specifier.{total}
 

@@ -1,6 +1,7 @@
+-- `with_word`: each count fits, since the total is small; the kind says which count it is, the last by what it is not. Assumes nothing.
 use Rattle.words.proofs.counts.Words.with_word.Statement.{statement}
 use Rattle.words.proofs.counts.Words.with_word.Tie as tie
-use mathlib.Core.Path.{_≡_, refl}
+use mathlib.Core.Path.{refl}
 use native.Mathlib.Omega.{arith}
 use Rattle.definition.specs.Specifier.{total, withWord}
 use Rattle.words.proofs.Laws.{last-word}

@@ -1,7 +1,7 @@
+-- `bits`: a bool as a number is the definition's `bit`. Assumes nothing.
 use borrow.Author.Needs.{needs}
 use Rattle.words.proofs.qualifiers.Qualifiers.bits.Statement.{statement}
 use Rattle.words.proofs.qualifiers.Qualifiers.bits.Tie as tie
-use mathlib.Core.Path.{refl, sym, _∙_}
 use native.Mathlib.Omega.{arith}
 use Rattle.words.proofs.Laws.{byte-bit, byte-small}
 use Rattle.definition.specs.Row.{qualifierBits}

@@ -1,7 +1,7 @@
 use borrow.Author.Needs.{needs}
 use Rattle.words.proofs.specifiers.Specifiers.names_type.Statement.{statement}
 use Rattle.words.proofs.specifiers.Specifiers.names_type.Tie as tie
-use mathlib.Core.Path.{refl, sym, _∙_}
+use mathlib.Core.Path.{refl}
 use Rattle.definition.specs.Specifier.{namesType}
 
 enum-told : tie.Need-enum-told

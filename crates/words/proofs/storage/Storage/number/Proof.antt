@@ -1,7 +1,7 @@
 use borrow.Author.Needs.{needs}
 use Rattle.words.proofs.storage.Storage.number.Statement.{statement}
 use Rattle.words.proofs.storage.Storage.number.Tie as tie
-use mathlib.Core.Path.{refl, sym, _∙_}
+use mathlib.Core.Path.{refl}
 use Rattle.definition.specs.Table.{storageNumber}
 
 enum-told : tie.Need-enum-told

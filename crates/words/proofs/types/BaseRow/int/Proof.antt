@@ -1,7 +1,6 @@
 use borrow.Author.Needs.{needs}
 use Rattle.words.proofs.types.BaseRow.int.Statement.{statement}
 use Rattle.words.proofs.types.BaseRow.int.Tie as tie
-use mathlib.Core.Path.{refl, sym, _∙_}
 use Rattle.definition.specs.Row.{kindOf, flagsOf, extentOf}
 use Rattle.words.specs.Meaning.{numbers}
 use Rattle.words.proofs.Laws.{byte-bit}
