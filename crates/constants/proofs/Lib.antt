@@ -1,4 +1,4 @@
 pub mod Search
-pub mod Branch
 pub mod Steps
 pub mod Rounds
+pub mod Enumerators

@@ -7,7 +7,8 @@ use lib.IntN.{ℤ}
 use Rattle.definition.specs.Answer.{Answer}
 use Rattle.definition.specs.Token.{Tokens, left}
 use Rattle.definition.specs.Constant.{Readers, operatorsFrom}
-use Rattle.constants.proofs.Branch.{Ends, by}
+use Rattle.table.specs.Ends.{Ends}
+use Rattle.table.proofs.Branch.{by}
 
 -- the answer a is what the operators from here give, with rounds enough for the tokens left
 pub record Going (ts : Tokens) (known : ℕ → Option ℤ) (next : Readers) (low : ℕ) (x : ℤ) (at : ℕ) (a : Answer (ℤ × ℕ)) : Type 0 where

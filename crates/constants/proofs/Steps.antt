@@ -19,22 +19,24 @@ use Rattle.definition.specs.Constant.{level, operand₁, chain₁, condition₁
 use Rattle.laws.proofs.ConstantProgress.{level-past}
 use Rattle.arithmetic.specs.declared.Number.{Number}
 use Rattle.arithmetic.specs.Outcome.{answer}
-use Rattle.constants.specs.declared.Cursor.{Cursor}
+use Rattle.constants.specs.declared.Place.{Place}
 use Rattle.constants.specs.declared.Reading.{Reading}
 use Rattle.constants.specs.declared.Reading.the-variants.{Value, Refused}
-use Rattle.constants.specs.Reading.{read, followed, Settles, Peek, tokens}
-use Rattle.constants.proofs.Branch.{Ends, by, via, halt, eq+, eq-}
+use Rattle.constants.specs.Reading.{read, followed, Settles, tokens}
+use Rattle.table.specs.Ends.{Ends}
+use Rattle.table.specs.Reply.{Peek}
+use Rattle.table.proofs.Branch.{via, halt, eq-yes, eq-no}
 
 -- an answer of the code shows what the definition gives
 abbrev pub Shows : Reading → Answer (ℤ × ℕ) → Type 0
 Shows r a = Ends (λ b. read r ≡ b) a
 
-pub done : {c : Cursor} {z : ℤ} {i : ℕ} → c .at ≡ i → Shows (Value c z) (got (z, i))
+pub done : {c : Place} {z : ℤ} {i : ℕ} → c .at ≡ i → Shows (Value c z) (got (z, i))
 unfolding read
 done {c} {z} e = record { ends = ap (λ i. got (z, i)) e }
 
 -- the value by another name
-pub done-as : {c : Cursor} {y z : ℤ} → y ≡ z → Shows (Value c z) (got (y, c .at))
+pub done-as : {c : Place} {y z : ℤ} → y ≡ z → Shows (Value c z) (got (y, c .at))
 unfolding read
 done-as {c} e = record { ends = ap (λ v. got (v, c .at)) (sym e) }
 
@@ -48,7 +50,7 @@ stop = record { ends = refl }
 -- ---- calls
 
 module _ {r : Reading} {x : Answer (ℤ × ℕ)} (k : ℤ × ℕ → Answer (ℤ × ℕ)) (e : read r ≡ x) where
-  pub call : {Q : Answer (ℤ × ℕ) → Type 0} {t : Cursor} {z : ℤ} → r ≡ Value t z → Ends Q (k (z, t .at)) → Ends Q (x >>= k)
+  pub call : {Q : Answer (ℤ × ℕ) → Type 0} {t : Place} {z : ℤ} → r ≡ Value t z → Ends Q (k (z, t .at)) → Ends Q (x >>= k)
   unfolding read
   call q h = via k (sym e ∙ ap read q) h
 
@@ -62,16 +64,10 @@ module _ {Q : Answer (ℤ × ℕ) → Type 0} (ks ns : List ℕ) (i : ℕ) {k ma
   pub ate : k ≡ mark → Ends Q (f (i + 1)) → Ends Q (need (tokens ks ns) mark i >>= f)
   unfolding need
   ate q h = via f (eq-yes _ _ _ _ (sym (e .is) ∙ q)) h
-    where
-      eq-yes : {A : Type 0} (a b : ℕ) (x y : A) → a ≡ b → elim (eqb a b) as (λ z. A) [ true ↦ x | false ↦ y ] ≡ x
-      eq-yes a b x y p = eq+ {Q = λ z. z ≡ x} a b x y p (record { ends = refl }) .ends
 
   pub missed : (k ≡ mark → ⊥) → Ends Q (refused missingMark i) → Ends Q (need (tokens ks ns) mark i >>= f)
   unfolding need
   missed q h = halt f (eq-no _ _ _ _ (λ z. q (e .is ∙ z))) h
-    where
-      eq-no : {A : Type 0} (a b : ℕ) (x y : A) → (a ≡ b → ⊥) → elim (eqb a b) as (λ z. A) [ true ↦ x | false ↦ y ] ≡ y
-      eq-no a b x y p = eq- {Q = λ z. z ≡ y} a b x y p (record { ends = refl }) .ends
 
 -- ---- a number that was settled
 
@@ -89,12 +85,12 @@ followed-refused (got v) n p j e = let o : _≡_ {A = ℕ} 0 1 = cc in absurd (o
 followed-refused (refused m q) n p j e = let a : m ≡ n = cc in let b : q ≡ p = cc in rw (a, b)
 
 module _ {m : Number} {at j : ℕ} {r : Reading} (e : Settles m j at r) where
-  pub settled-at : {t : Cursor} {z : ℤ} → r ≡ Value t z → t .at ≡ j
+  pub settled-at : {t : Place} {z : ℤ} → r ≡ Value t z → t .at ≡ j
   unfolding read
   settled-at q = followed-got (answer m at) _ _ _ (sym (ap read q) ∙ e .is) .1
 
   module _ (o : Option ℤ) (f : ℤ → Answer (ℤ × ℕ)) (w : answer m ≡ exact o) where
-    pub go-on : {Q : Answer (ℤ × ℕ) → Type 0} {t : Cursor} {z : ℤ} → r ≡ Value t z → Ends Q (f z) → Ends Q (exact o at >>= f)
+    pub go-on : {Q : Answer (ℤ × ℕ) → Type 0} {t : Place} {z : ℤ} → r ≡ Value t z → Ends Q (f z) → Ends Q (exact o at >>= f)
     unfolding read
     go-on {t = t} {z} q h = via f (sym (ap (λ g. g at) w) ∙ followed-got (answer m at) z (t .at) j (sym (ap read q) ∙ e .is) .0) h
 
@@ -177,6 +173,6 @@ module _ (ts : Tokens) (known : ℕ → Option ℤ) {room : ℕ} (at : ℕ) wher
   a-condition e = let h : room ≡ suc (room - 1) = omega arith in ap (λ m. level ts known m .condition at) h
 
 -- a chain goes past its start
-pub past : (ts : Tokens) (known : ℕ → Option ℤ) (room low i : ℕ) {r : Reading} {t : Cursor} {z : ℤ} → read r ≡ level ts known room .chain low i → r ≡ Value t z → i < t .at
+pub past : (ts : Tokens) (known : ℕ → Option ℤ) (room low i : ℕ) {r : Reading} {t : Place} {z : ℤ} → read r ≡ level ts known room .chain low i → r ≡ Value t z → i < t .at
 unfolding read
 past ts known room low i e q = level-past ts known room .chain low i .of _ (sym e ∙ ap read q)

@@ -4,14 +4,12 @@ use mathlib.Core.List.{List}
 use mathlib.Core.Option.{Option}
 use Prim.Native.Nat.{ℕ}
 use lib.IntN.{ℤ}
-use lib.ListN.{getD}
 use Rattle.definition.specs.Answer.{Answer, got, refused, _>>=_}
-use Rattle.definition.specs.Kind.{end}
 use Rattle.definition.specs.Token.{Tokens}
 use Rattle.definition.specs.Constant.{Readers, primary}
 use Rattle.arithmetic.specs.declared.Number.{Number}
 use Rattle.arithmetic.specs.Outcome.{answer}
-use Rattle.constants.specs.declared.Cursor.{Cursor}
+use Rattle.constants.specs.declared.Place.{Place}
 use Rattle.constants.specs.declared.Reading.{Reading}
 use Rattle.constants.specs.declared.Reading.the-variants.{Value, Refused}
 
@@ -24,13 +22,9 @@ read (Refused n at) = refused n at
 unfoldable pub followed : Answer ℤ → ℕ → Answer (ℤ × ℕ)
 followed a next = a >>= λ v. got (v, next)
 
--- the answer r is the number's value and the cursor's index, or its refusal at an index
+-- the answer r is the number's value and the place's index, or its refusal at an index
 pub record Settles (n : Number) (next at : ℕ) (r : Reading) : Type 0 where
   pub is : read r ≡ followed (answer n at) next
-
--- k is the kind of the token at an index; 0 past the last
-pub record Peek (ks : List ℕ) (i k : ℕ) : Type 0 where
-  pub is : k ≡ getD ks i end
 
 -- the columns of tokens
 abbrev pub tokens : List ℕ → List ℕ → Tokens

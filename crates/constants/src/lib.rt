@@ -1,5 +1,10 @@
 // Constant expressions over the columns of tokens and the enumerators found so far, equal to the definition of the same names.
 use arithmetic::Number;
+use table::Cursor;
+use table::VALUE_WORDS;
+use table::VALUES_AT;
+use table::kind_at;
+use table::number_at;
 ghost use mathlib.Core.Path.{_≡_};
 ghost use mathlib.Core.Option.{some};
 ghost use Prim.Native.Nat.{_+_, _<_, _^_};
@@ -8,8 +13,11 @@ ghost use lib.ListN.{getD};
 ghost use Rattle.definition.specs.Range.{exact};
 ghost use Rattle.definition.specs.Constant.{level, constant};
 ghost use Rattle.arithmetic.specs.Outcome.{answer};
+ghost use Rattle.table.specs.Held.{Room};
+ghost use Rattle.table.specs.Reply.{Peek};
+ghost use Rattle.constants.specs.Here.{Evaluates};
 ghost use Rattle.constants.specs.Lookup.{lastValue, found};
-ghost use Rattle.constants.specs.Reading.{read, tokens, Peek, Settles, ReadsPrimary};
+ghost use Rattle.constants.specs.Reading.{read, tokens, Settles, ReadsPrimary};
 
 // Kinds of tokens.
 const NUMBER: u32 = 1;
@@ -41,18 +49,24 @@ const NO_CONSTANT: u32 = 23;
 const DEPTHS: u32 = 65;
 // Below every operator's precedence.
 const NO_PRECEDENCE: u32 = 0;
-// The first number of the value entries in the lent 32-bit slice.
-const VALUES: usize = 22528;
+// The column of a value entry that has its name.
+const NAME_COLUMN: usize = 1;
 
 const MOST: u64 = 9223372036854775807;
 
 // A place among the tokens.
-pub struct Cursor {
+pub struct Place {
     pub at: usize,
 }
 
 pub enum Reading {
-    Value(Cursor, i64),
+    Value(Place, i64),
+    Refused(u32, usize),
+}
+
+// A value, and the table's cursor after it.
+pub enum Evaluated {
+    Done(Cursor, i64),
     Refused(u32, usize),
 }
 
@@ -61,45 +75,27 @@ pub enum Found {
     Unknown,
 }
 
-impl Cursor {
+impl Place {
     // The kind of the token here; 0 past the last.
     pub fn kind(self, kinds: &[u32]) -> u32
         ensures { λ r. ⌜ Peek (now (kinds .entry)) (self .at) r ⌝ }
     {
-        let at = self.at;
-        if at < kinds.len() {
-            return kinds[at];
-        }
-        0
+        kind_at(kinds, self.at)
     }
 
     // Its number; 0 past the last.
     pub fn number(self, numbers: &[u64]) -> u64
-        ensures { λ r. ⌜ r ≡ getD (now (numbers .entry)) (self .at) 0 ⌝ }
+        ensures { λ r. ⌜ Peek (now (numbers .entry)) (self .at) r ⌝ }
     {
-        let at = self.at;
-        if at < numbers.len() {
-            return numbers[at];
-        }
-        0
+        number_at(numbers, self.at)
     }
 
-    pub fn next(self) -> Cursor
+    pub fn next(self) -> Place
         requires { ⌜ self .at + 1 < 2 ^ 64 ⌝ }
         ensures { λ r. ⌜ r .at ≡ self .at + 1 ⌝ }
     {
-        Cursor { at: self.at + 1 }
+        Place { at: self.at + 1 }
     }
-}
-
-// A number of the lent 32-bit slice; 0 past the last.
-fn word_at(words: &[u32], i: usize) -> u32
-    ensures { λ r. ⌜ r ≡ getD (now (words .entry)) i 0 ⌝ }
-{
-    if i < words.len() {
-        return words[i];
-    }
-    0
 }
 
 // A number of the lent signed slice; 0 past the last.
@@ -125,7 +121,7 @@ pub fn value_of(words: &[u32], values: &[i64], count: u32, name: u64) -> Found
     let mut k = count as usize;
     while 0 < k {
         k = k - 1;
-        if wide(word_at(words, VALUES + 2 * k + 1)) == name {
+        if wide(kind_at(words, VALUES_AT + VALUE_WORDS * k + NAME_COLUMN)) == name {
             return Found::Known(signed_at(values, k));
         }
     }
@@ -143,7 +139,7 @@ pub fn literal(m: u64) -> Number
 }
 
 // A value with what follows it, or its refusal at `at`.
-pub fn settled(n: Number, next: Cursor, at: usize) -> Reading
+pub fn settled(n: Number, next: Place, at: usize) -> Reading
     ensures { λ r. ⌜ Settles n (next .at) at r ⌝ }
 {
     match n {
@@ -160,7 +156,7 @@ pub fn primary_value(
     words: &[u32],
     values: &[i64],
     count: u32,
-    c: Cursor,
+    c: Place,
 ) -> Reading
     ensures { λ r. ⌜ ReadsPrimary (tokens (now (kinds .entry)) (now (numbers .entry))) (lastValue (now (words .entry)) (now (values .entry)) count) (c .at) r ⌝ }
 {
@@ -189,7 +185,7 @@ pub fn unary(
     words: &[u32],
     values: &[i64],
     count: u32,
-    c: Cursor,
+    c: Place,
     room: u32,
 ) -> Reading
     ensures { λ r. ⌜ read r ≡ level (tokens (now (kinds .entry)) (now (numbers .entry))) (lastValue (now (words .entry)) (now (values .entry)) count) room .operand (c .at) ⌝ }
@@ -227,7 +223,7 @@ pub fn binary(
     words: &[u32],
     values: &[i64],
     count: u32,
-    c: Cursor,
+    c: Place,
     low: u32,
     room: u32,
 ) -> Reading
@@ -270,7 +266,7 @@ pub fn conditional(
     words: &[u32],
     values: &[i64],
     count: u32,
-    c: Cursor,
+    c: Place,
     room: u32,
 ) -> Reading
     ensures { λ r. ⌜ read r ≡ level (tokens (now (kinds .entry)) (now (numbers .entry))) (lastValue (now (words .entry)) (now (values .entry)) count) room .condition (c .at) ⌝ }
@@ -311,9 +307,23 @@ pub fn constant_at(
     words: &[u32],
     values: &[i64],
     count: u32,
-    c: Cursor,
+    c: Place,
 ) -> Reading
     ensures { λ r. ⌜ read r ≡ constant (tokens (now (kinds .entry)) (now (numbers .entry))) (lastValue (now (words .entry)) (now (values .entry)) count) (c .at) ⌝ }
 {
     conditional(kinds, numbers, words, values, count, c, DEPTHS)
+}
+
+// The constant where the table's cursor stands, with the enumerators of the table.
+pub fn constant_here(kinds: &[u32], numbers: &[u64], w: &[u32], v: &[i64], c: Cursor) -> Evaluated
+    requires { ⌜ Room c ⌝ }
+    ensures { λ r. ⌜ Evaluates (tokens (now (kinds .entry)) (now (numbers .entry))) c (now (w .entry)) (now (v .entry)) r ⌝ }
+{
+    let at = c.at;
+    let count = c.values;
+    let r = constant_at(kinds, numbers, w, v, count as u32, Place { at });
+    match r {
+        Reading::Refused(n, p) => Evaluated::Refused(n, p),
+        Reading::Value(t, z) => Evaluated::Done(c.moved(t.at), z),
+    }
 }

@@ -10,8 +10,8 @@ use Rattle.constants.proofs.+binary+conditional+unary.Lts-conditional a
 use Rattle.constants.proofs.unary.Reads as unary
 use Rattle.constants.proofs.unary.Kinds as unary-kinds
 use Rattle.constants.proofs.+binary+conditional+unary.Lts-unary as unary-lts
-use Rattle.constants.proofs.Cursor.kind.Reads as kind-reads
-use Rattle.constants.proofs.Cursor.next.Reads as next-reads
+use Rattle.constants.proofs.Place.kind.Reads as kind-reads
+use Rattle.constants.proofs.Place.next.Reads as next-reads
 use Rattle.constants.proofs.primary_value.Reads as primary-value-reads
 use Rattle.constants.proofs.settled.Reads as settled-reads
 use Rattle.operators.proofs.is_prefix.Reads as is-prefix-reads
@@ -30,7 +30,8 @@ use mir.Val.{toZ}
 use Rattle.arithmetic.proofs.Told.{back}
 use Rattle.constants.specs.Lookup.{lastValue}
 use Rattle.constants.specs.Reading.{tokens}
-use Rattle.constants.proofs.Branch.{Ends, by, yes!, nay!, eq+, eq-, lt+, lt-}
+use Rattle.table.specs.Ends.{Ends}
+use Rattle.table.proofs.Branch.{by, yes!, nay!, eq+, eq-, lt+, lt-}
 use Rattle.constants.proofs.Steps.{done, done-as, shown, stop, call, fail, ate, missed, settled-at, go-on, give-up, settle, there, prefix-there, operator-there, third, second, no-operand, an-operand, no-chain, a-chain, no-condition, a-condition, past}
 use Rattle.constants.proofs.Rounds.{Going, starts, starts-as, turn}
 use Rattle.definition.specs.Arithmetic.{isPrefix}

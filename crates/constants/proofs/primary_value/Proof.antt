@@ -7,7 +7,7 @@ use mathlib.Core.Path.{sym, ap, _∙_}
 use lib.IntN.{pos}
 use Rattle.arithmetic.proofs.Told.{back}
 use Rattle.constants.specs.Lookup.{found}
-use Rattle.constants.proofs.Branch.{yes!, nay!, eq+, eq-, some!, none! }
+use Rattle.table.proofs.Branch.{yes!, nay!, eq+, eq-, some!, none! }
 use Rattle.constants.proofs.Steps.{done, stop, settle, there, too-low, too-high, a-name}
 use Rattle.definition.specs.Kind.{isName}
 use Rattle.definition.specs.Constant.{primary}
@@ -31,7 +31,7 @@ returns : tie.Need-returns
 unfolding primary
 returns c = record {
   is = λ next. eq+ _ _ _ _ (sym (c .before .before .before .before .before .kind .ensures .is) ∙ c .before .before .before .before .if1 .taken)
-      (settle (rw (c .before .next .ensures) at (c .settled .ensures)) (pos _) (rw (c .before .before .before .number .ensures) at (c .before .before .literal .ensures))) .ends;
+      (settle (rw (c .before .next .ensures) at (c .settled .ensures)) (pos _) (rw (c .before .before .before .number .ensures .is) at (c .before .before .literal .ensures))) .ends;
 }
 
 returns-2 : tie.Need-returns-2
@@ -65,7 +65,7 @@ unfolding primary found
 returns-4 c = record {
   is = λ next. eq- _ _ _ _ (λ z. c .before .before .before .before .before .before .if1 .left (c .before .before .before .before .before .before .before .kind .ensures .is ∙ z))
       (yes! _ _ _ (ap isName (sym (c .before .before .before .before .before .before .before .kind .ensures .is)) ∙ a-name (c .before .before .before .before .before .if2 .left) (c .before .before .before .before .if3 .left))
-      (none! _ _ _ (sym (rw (c .before .before .before .number2 .ensures) at (c .before .before .value-of .ensures)) ∙ ap found (c .enum-told .given .1)) stop)) .ends;
+      (none! _ _ _ (sym (rw (c .before .before .before .number2 .ensures .is) at (c .before .before .value-of .ensures)) ∙ ap found (c .enum-told .given .1)) stop)) .ends;
 }
 
 next-requires-2 : tie.Need-next-requires-2
@@ -76,7 +76,7 @@ unfolding primary found
 returns-5 c = record {
   is = λ next. rw (back (sfits-of (c .before .known-told .given .0 .1))) (eq- _ _ _ _ (λ z. c .before .before .before .before .before .before .before .before .if1 .left (c .before .before .before .before .before .before .before .before .before .kind .ensures .is ∙ z))
       (yes! _ _ _ (ap isName (sym (c .before .before .before .before .before .before .before .before .before .kind .ensures .is)) ∙ a-name (c .before .before .before .before .before .before .before .if2 .left) (c .before .before .before .before .before .before .if3 .left))
-      (some! _ _ _ (sym (rw (c .before .before .before .before .before .number2 .ensures) at (c .before .before .before .before .value-of .ensures)) ∙ ap found (c .before .before .f .given .1)) (done (c .next2 .ensures)))) .ends);
+      (some! _ _ _ (sym (rw (c .before .before .before .before .before .number2 .ensures .is) at (c .before .before .before .before .value-of .ensures)) ∙ ap found (c .before .before .f .given .1)) (done (c .next2 .ensures)))) .ends);
 }
 
 pub primary-value-spec : {M : Type 1} → statement M

@@ -21,17 +21,17 @@ loop-holds c = (le-refl _, refl)
 sub-k : tie.Need-sub-k Inv-loop μ-loop
 sub-k c = c .loop-test .taken
 
-mul-word-at : tie.Need-mul-word-at Inv-loop μ-loop
-mul-word-at c = omega (arith, c .before .before .before .fits .count, c .before .loop .inv .0)
+mul-kind-at : tie.Need-mul-kind-at Inv-loop μ-loop
+mul-kind-at c = omega (arith, c .before .before .before .fits .count, c .before .loop .inv .0)
 
-add-word-at : tie.Need-add-word-at Inv-loop μ-loop
-add-word-at c = omega (arith, c .before .before .before .fits .count, c .before .loop .inv .0)
+add-kind-at : tie.Need-add-kind-at Inv-loop μ-loop
+add-kind-at c = omega (arith, c .before .before .before .fits .count, c .before .loop .inv .0)
 
-add-word-at-2 : tie.Need-add-word-at-2 Inv-loop μ-loop
-add-word-at-2 c = omega (arith, c .before .before .before .fits .count, c .before .loop .inv .0)
+add-kind-at-2 : tie.Need-add-kind-at-2 Inv-loop μ-loop
+add-kind-at-2 c = omega (arith, c .before .before .before .fits .count, c .before .loop .inv .0)
 
-word-at-requires : tie.Need-word-at-requires Inv-loop μ-loop
-word-at-requires c κs = search needs
+kind-at-requires : tie.Need-kind-at-requires Inv-loop μ-loop
+kind-at-requires c κs = search needs
 
 wide-requires : tie.Need-wide-requires Inv-loop μ-loop
 wide-requires c κs = search needs
@@ -42,7 +42,7 @@ signed-at-requires c κs = search needs
 returns : tie.Need-returns Inv-loop μ-loop
 unfolding found
 returns c =
-    rw (back (sfits-of (c .signed-at .ok)), c .signed-at .ensures) (sym (c .before .before .before .before .before .loop .inv .1 ∙ hit (c .before .before .before .before .before .before .before .args .words .now) (c .before .before .before .before .before .before .before .args .values .now) (c .before .before .before .before .before .before .before .args .name) (c .before .before .before .before .before .loop .k) (c .before .before .before .before .loop-test .taken) (sym (c .before .before .wide .ensures ∙ c .before .before .before .word-at .ensures) ∙ c .before .if1 .taken)))
+    rw (back (sfits-of (c .signed-at .ok)), c .signed-at .ensures) (sym (c .before .before .before .before .before .loop .inv .1 ∙ hit (c .before .before .before .before .before .before .before .args .words .now) (c .before .before .before .before .before .before .before .args .values .now) (c .before .before .before .before .before .before .before .args .name) (c .before .before .before .before .before .loop .k) (c .before .before .before .before .loop-test .taken) (sym (c .before .before .wide .ensures ∙ c .before .before .before .kind-at .ensures .is) ∙ c .before .if1 .taken)))
 
 loop-less : tie.Need-loop-less Inv-loop μ-loop
 loop-less c = omega (arith, c .before .before .before .loop-test .taken)
@@ -50,7 +50,7 @@ loop-less c = omega (arith, c .before .before .before .loop-test .taken)
 loop-again : tie.Need-loop-again Inv-loop μ-loop
 loop-again c = (
   omega (arith, c .before .before .before .before .loop .inv .0),
-  c .before .before .before .before .loop .inv .1 ∙ miss (c .before .before .before .before .before .before .args .words .now) (c .before .before .before .before .before .before .args .values .now) (c .before .before .before .before .before .before .args .name) (c .before .before .before .before .loop .k) (c .before .before .before .loop-test .taken) (λ e. c .if1 .left (c .before .wide .ensures ∙ c .before .before .word-at .ensures ∙ e)),
+  c .before .before .before .before .loop .inv .1 ∙ miss (c .before .before .before .before .before .before .args .words .now) (c .before .before .before .before .before .before .args .values .now) (c .before .before .before .before .before .before .args .name) (c .before .before .before .before .loop .k) (c .before .before .before .loop-test .taken) (λ e. c .if1 .left (c .before .wide .ensures ∙ c .before .before .kind-at .ensures .is ∙ e)),
 )
 
 returns-2 : tie.Need-returns-2 Inv-loop μ-loop
@@ -67,10 +67,10 @@ value-of-spec =
     μ-loop
     loop-holds
     sub-k
-    mul-word-at
-    add-word-at
-    add-word-at-2
-    word-at-requires
+    mul-kind-at
+    add-kind-at
+    add-kind-at-2
+    kind-at-requires
     wide-requires
     signed-at-requires
     returns

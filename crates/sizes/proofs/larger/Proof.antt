@@ -1,0 +1,46 @@
+use borrow.Author.Needs.{needs}
+use Rattle.sizes.proofs.larger.Statement.{statement}
+use Rattle.sizes.proofs.larger.Tie as tie
+use Rattle.sizes.proofs.larger.Reads as reads
+use Rattle.sizes.proofs.larger.Lts as lts
+use native.Mathlib.Omega.{arith}
+use mathlib.Core.Path.{_≡_, refl, sym, ap, _∙_}
+use mathlib.Core.Option.{some}
+use Rattle.sizes.proofs.Gathered.{only-left, right-larger, left-larger}
+
+enum-known-a : tie.Need-enum-known-a
+enum-known-a c = search needs
+
+enum-told : tie.Need-enum-told
+enum-told c = search needs
+
+returns : tie.Need-returns
+returns c = search needs
+
+enum-known-b : tie.Need-enum-known-b
+enum-known-b c = search needs
+
+enum-told-2 : tie.Need-enum-told-2
+enum-told-2 c = search needs
+
+returns-2 : tie.Need-returns-2
+returns-2 c = only-left (c .before .before .before .a .given .1) (c .enum-told2 .given .1)
+
+returns-3 : tie.Need-returns-3
+returns-3 c = right-larger (c .before .before .before .before .before .a .given .1) (c .before .before .b .given .1) (c .if1 .taken)
+
+returns-4 : tie.Need-returns-4
+returns-4 c = left-larger (c .before .before .before .before .before .a .given .1) (c .before .before .b .given .1) (c .if1 .left)
+
+pub larger-spec : {M : Type 1} → statement M
+larger-spec =
+    tie.close
+    (tie.spec
+    enum-known-a
+    enum-told
+    returns
+    enum-known-b
+    enum-told-2
+    returns-2
+    returns-3
+    returns-4)

@@ -1,0 +1,238 @@
+// The size of a row, exact as far as 64 bits go, and its alignment.
+ghost use mathlib.Core.Path.{_≡_};
+ghost use Prim.Native.Nat.{ℕ, max};
+ghost use Rattle.definition.specs.Limit.{alignLevels};
+ghost use Rattle.definition.specs.Align.{larger, orOne, capped};
+ghost use Rattle.words.specs.Meaning.{model};
+ghost use Rattle.sizes.specs.Measure.{among, align, ownAlign, SizeIs, OwnIs, TimesIs, AlignIs, StrictestIs};
+use table::{row_kind, row_target, row_flags, row_first, row_count, row_extent, member_row, member_type};
+use words::model::Model;
+use words::row_kinds::{
+    ARRAY_KIND, BOOL_KIND, ENUM_KIND, FLOAT_KIND, INT_KIND, POINTER_KIND, QUALIFIED_KIND,
+    STRUCT_KIND, TYPEDEF_KIND, UNION_KIND,
+};
+
+// A size in bytes; one above 2^64 - 1 is `Big`.
+pub enum Size {
+    Known(u64),
+    Big,
+    Unknown,
+}
+
+pub enum Align {
+    Known(u64),
+    Absent,
+}
+
+const MAX_SIZE: u64 = 0xffff_ffff_ffff_ffff;
+
+// A kind is one of three.
+fn among(kind: u32, a: u32, b: u32, c: u32) -> bool
+    ensures { λ r. ⌜ r ≡ among kind a b c ⌝ }
+{
+    if kind == a {
+        return true;
+    }
+    if kind == b {
+        return true;
+    }
+    kind == c
+}
+
+// As many of a size as a bound says.
+fn times(size: Size, bound: u64) -> Size
+    ensures { λ r. ⌜ TimesIs size bound r ⌝ }
+{
+    match size {
+        Size::Unknown => Size::Unknown,
+        Size::Big => {
+            if bound != 0 {
+                return Size::Big;
+            }
+            Size::Known(0)
+        }
+        Size::Known(s) => {
+            if bound == 0 {
+                return Size::Known(0);
+            }
+            if MAX_SIZE / bound < s {
+                return Size::Big;
+            }
+            Size::Known(s * bound)
+        }
+    }
+}
+
+// The size of a row that goes by no other: its kind, flags and 64-bit number say it.
+fn own_size(m: Model, kind: u32, flags: u32, extent: u64) -> Size
+    ensures { λ r. ⌜ OwnIs m kind flags extent r ⌝ }
+{
+    if among(kind, INT_KIND, FLOAT_KIND, ENUM_KIND) {
+        return Size::Known(extent);
+    }
+    if kind == BOOL_KIND {
+        return Size::Known(1);
+    }
+    if kind == POINTER_KIND {
+        return Size::Known(m.pointer);
+    }
+    if !among(kind, STRUCT_KIND, UNION_KIND, UNION_KIND) {
+        return Size::Unknown;
+    }
+    if flags == 0 {
+        return Size::Unknown;
+    }
+    Size::Known(extent)
+}
+
+// The size of a row. An array, a typedef and a qualified type go by a lower row.
+pub fn size_of(m: Model, w: &[u32], d: &[u64], n: u32) -> Size
+    ensures { λ r. ⌜ SizeIs m n (now (w .entry)) (now (d .entry)) r ⌝ }
+{
+    let kind = row_kind(w, n);
+    let flags = row_flags(w, n);
+    let extent = row_extent(d, n);
+    if !among(kind, ARRAY_KIND, TYPEDEF_KIND, QUALIFIED_KIND) {
+        return own_size(m, kind, flags, extent);
+    }
+    let target = row_target(w, n);
+    if n <= target {
+        return Size::Unknown;
+    }
+    let under = size_of(m, w, d, target);
+    if kind != ARRAY_KIND {
+        return under;
+    }
+    if flags == 0 {
+        return Size::Unknown;
+    }
+    times(under, extent)
+}
+
+fn at_least_one(x: u64) -> u64
+    ensures { λ r. ⌜ r ≡ max x 1 ⌝ }
+{
+    if x == 0 {
+        return 1;
+    }
+    x
+}
+
+// A scalar's alignment: its size, at least 1 and at most the cap.
+fn capped(m: Model, size: u64) -> u64
+    ensures { λ r. ⌜ r ≡ capped (model m) size ⌝ }
+{
+    let most = at_least_one(m.max_align);
+    let least = at_least_one(size);
+    if most < least {
+        return most;
+    }
+    least
+}
+
+// The larger of two alignments that may be absent.
+fn larger(a: Align, b: Align) -> Align
+    ensures { λ r. ⌜ align r ≡ larger (align a) (align b) ⌝ }
+{
+    let Align::Known(x) = a else {
+        return b;
+    };
+    let Align::Known(y) = b else {
+        return a;
+    };
+    if x < y {
+        return b;
+    }
+    a
+}
+
+// An alignment that isn't there counts 1.
+pub fn or_one(a: Align) -> u64
+    ensures { λ r. ⌜ r ≡ orOne (align a) ⌝ }
+{
+    let Align::Known(x) = a else {
+        return 1;
+    };
+    x
+}
+
+// The alignment of a row that goes by no other and has no members.
+fn own_align(m: Model, kind: u32, extent: u64) -> Align
+    ensures { λ r. ⌜ align r ≡ ownAlign (model m) kind extent ⌝ }
+{
+    if among(kind, INT_KIND, FLOAT_KIND, ENUM_KIND) {
+        return Align::Known(capped(m, extent));
+    }
+    if kind == BOOL_KIND {
+        return Align::Known(1);
+    }
+    if kind == POINTER_KIND {
+        return Align::Known(capped(m, m.pointer));
+    }
+    Align::Absent
+}
+
+// The alignment of a row as far as `levels` rows deep.
+fn align_within(
+    m: Model,
+    w: &[u32],
+    d: &[u64],
+    members: usize,
+    n: u32,
+    levels: u32,
+) -> Align
+    ensures { λ r. ⌜ AlignIs levels m members n (now (w .entry)) (now (d .entry)) r ⌝ }
+{
+    if levels == 0 {
+        return Align::Absent;
+    }
+    let kind = row_kind(w, n);
+    if among(kind, STRUCT_KIND, UNION_KIND, UNION_KIND) {
+        let best = strictest(m, w, d, members, n, levels - 1);
+        return Align::Known(or_one(best));
+    }
+    if among(kind, ARRAY_KIND, TYPEDEF_KIND, QUALIFIED_KIND) {
+        let under = row_target(w, n);
+        return align_within(m, w, d, members, under, levels - 1);
+    }
+    let extent = row_extent(d, n);
+    own_align(m, kind, extent)
+}
+
+// The largest alignment of a row's members: from its first entry on, as many as it has that carry it.
+fn strictest(
+    m: Model,
+    w: &[u32],
+    d: &[u64],
+    members: usize,
+    n: u32,
+    levels: u32,
+) -> Align
+    ensures { λ r. ⌜ StrictestIs levels m members n (now (w .entry)) (now (d .entry)) r ⌝ }
+{
+    let mut i = row_first(w, n) as usize;
+    let mut left = row_count(w, n);
+    let mut best = Align::Absent;
+    while i < members {
+        if left == 0 {
+            return best;
+        }
+        if member_row(w, i) != n {
+            i = i + 1;
+            continue;
+        }
+        let ty = member_type(w, i);
+        let a = align_within(m, w, d, members, ty, levels);
+        best = larger(best, a);
+        left = left - 1;
+        i = i + 1;
+    }
+    best
+}
+
+// The alignment of a row; `members` is how many members the table has.
+pub fn align_of(m: Model, w: &[u32], d: &[u64], members: usize, n: u32) -> Align
+    ensures { λ r. ⌜ AlignIs alignLevels m members n (now (w .entry)) (now (d .entry)) r ⌝ }
+{
+    align_within(m, w, d, members, n, Model::ALIGN_LEVELS)
+}
