@@ -1,7 +1,7 @@
 // Arithmetic of constants on i64. Each operator gives the exact value of the definition, or says why it cannot.
 ghost use mathlib.Core.Path.{_≡_};
 ghost use mathlib.Core.Option.{some};
-ghost use lib.IntN.{negℤ, natAbs};
+ghost use lib.IntN.{pos, negℤ, natAbs};
 ghost use Rattle.definition.specs.Range.{exact};
 ghost use Rattle.definition.specs.Arithmetic.{times, over, rest, sum, difference, count, shiftLeft, shiftRight, less, greater, atMost, atLeast, equal, unequal, bitsAnd, bitsXor, bitsOr, both, either, truth, complement, isFalse};
 ghost use Rattle.arithmetic.specs.Outcome.{answer};
@@ -61,6 +61,16 @@ pub fn neg(a: i64) -> Number
         return Number::OutOfRange;
     }
     Number::Value(-a)
+}
+
+// A literal's value.
+pub fn literal(m: u64) -> Number
+    ensures { λ r. ⌜ answer r ≡ exact (some (pos m)) ⌝ }
+{
+    if LARGEST <= m {
+        return Number::OutOfRange;
+    }
+    Number::Value(m as i64)
 }
 
 // The absolute value.

@@ -6,13 +6,10 @@ use table::VALUES_AT;
 use table::kind_at;
 use table::number_at;
 ghost use mathlib.Core.Path.{_≡_};
-ghost use mathlib.Core.Option.{some};
 ghost use Prim.Native.Nat.{_+_, _<_, _^_};
 ghost use lib.IntN.{pos};
 ghost use lib.ListN.{getD};
-ghost use Rattle.definition.specs.Range.{exact};
 ghost use Rattle.definition.specs.Constant.{level, constant};
-ghost use Rattle.arithmetic.specs.Outcome.{answer};
 ghost use Rattle.table.specs.Held.{Room};
 ghost use Rattle.table.specs.Reply.{Peek};
 ghost use Rattle.constants.specs.Here.{Evaluates};
@@ -51,8 +48,6 @@ const DEPTHS: u32 = 65;
 const NO_PRECEDENCE: u32 = 0;
 // The column of a value entry that has its name.
 const NAME_COLUMN: usize = 1;
-
-const MOST: u64 = 9223372036854775807;
 
 // A place among the tokens.
 pub struct Place {
@@ -128,16 +123,6 @@ pub fn value_of(words: &[u32], values: &[i64], count: u32, name: u64) -> Found
     Found::Unknown
 }
 
-// A literal's value.
-pub fn literal(m: u64) -> Number
-    ensures { λ r. ⌜ answer r ≡ exact (some (pos m)) ⌝ }
-{
-    if MOST < m {
-        return Number::OutOfRange;
-    }
-    Number::Value(m as i64)
-}
-
 // A value with what follows it, or its refusal at `at`.
 pub fn settled(n: Number, next: Place, at: usize) -> Reading
     ensures { λ r. ⌜ Settles n (next .at) at r ⌝ }
@@ -163,7 +148,7 @@ pub fn primary_value(
     let at = c.at;
     let k = c.kind(kinds);
     if k == NUMBER {
-        return settled(literal(c.number(numbers)), c.next(), at);
+        return settled(arithmetic::literal(c.number(numbers)), c.next(), at);
     }
     if k < FIRST_NAME {
         return Reading::Refused(NO_CONSTANT, at);

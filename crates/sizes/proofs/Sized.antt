@@ -7,6 +7,7 @@ use Prim.Native.Nat.{ℕ, zero, suc, _+_, _-_, _*_, _/_, _^_, _<_, _≤_, max, m
 use native.Mathlib.Omega.{arith}
 use native.Mathlib.Nat.{div-lt-iff-lt-mul}
 use lib.Dec.{eqb, ltb}
+use lib.ListN.{getD}
 use Rattle.definition.specs.Model.{Model}
 use Rattle.definition.specs.RowKind.{arrayKind, structKind, unionKind, typedefKind, qualifiedKind}
 use Rattle.definition.specs.Row.{Row, void, int, float, bool, pointer, array, composite, enumeration, function, typedef, qualified, kindOf, targetOf, flagsOf, extentOf, spanOf}
@@ -16,7 +17,17 @@ use Rattle.definition.specs.Size.{times, sizeBy, sizeWithin, sizeOf}
 use Rattle.definition.specs.Align.{orOne, largest, alignBy, alignWithin}
 use Rattle.laws.proofs.Counted.{size-enough}
 use Rattle.table.proofs.Branch.{yes, nay, eq-yes, eq-no, lt-yes, lt-no}
-use Rattle.sizes.specs.Measure.{among, ownSize, ownAlign}
+use Rattle.table.specs.Held.{InWides}
+use Rattle.table.specs.Reply.{WideIs}
+use Rattle.sizes.specs.Measure.{Extents, among, ownSize, ownAlign}
+
+-- slices that hold a table hold its rows
+pub extents : {t : Table} {d : List ℕ} → InWides t d → Extents t d
+extents h = record { table = _; holds = h; rows = refl }
+
+-- a number that was read is the row's
+pub extent-of : (n : ℕ) {t : Table} {d : List ℕ} {r : ℕ} → WideIs (λ s. extentOf (rowAt s n)) d r → Extents t d → r ≡ extentOf (rowAt t n)
+extent-of n p x = p .of (x .table) (x .holds) ∙ ap (λ rs. extentOf (getD rs n void)) (x .rows)
 
 -- an array goes by its element, an alias by what it stands for, any other row by itself
 unfoldable byNumbers : Model → (ℕ → Option ℕ) → ℕ → ℕ → ℕ → ℕ → Option ℕ

@@ -26,7 +26,7 @@ unfolding told
 big! x p = sym (lt-no x (2 ^ 64) _ _ p)
 
 -- which size is told so
-data View : Option ℕ → Size → Type 0 where
+pub data View : Option ℕ → Size → Type 0 where
   unknown : View none Unknown
   known : (x : ℕ) → x < 2 ^ 64 → View (some x) (Known x)
   big : (x : ℕ) → 2 ^ 64 ≤ x → View (some x) Big
@@ -79,7 +79,7 @@ pub not-too-many : {a bound : ℕ} → (bound ≡ 0 → ⊥) → a ≤ 184467440
 not-too-many {a} {bound} z h = let p : 0 < bound = omega arith in let q : a * bound ≤ 18446744073709551615 = le-div-iff-mul-le {k = bound} {x = a} {y = 18446744073709551615} p .0 h in omega arith
 
 module _ {s : Size} (o : Option ℕ) (h : s ≡ told o) where
-  seen : View o s
+  pub seen : View o s
   seen = rw h (view o)
 
   module _ (bound : ℕ) where

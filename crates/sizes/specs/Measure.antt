@@ -44,9 +44,15 @@ pub record OwnIs (m : Model) (kind flags extent : ℕ) (r : Size) : Type 0 where
 pub record TimesIs (s : Size) (bound : ℕ) (r : Size) : Type 0 where
   pub of : (o : Option ℕ) → s ≡ told o → r ≡ told (times o bound)
 
+-- d holds the rows of a table; its members may be elsewhere, as while they are laid out
+pub record Extents (t : Table) (d : List ℕ) : Type 0 where
+  pub table : Table
+  pub holds : InWides table d
+  pub rows : table .rows ≡ t .rows
+
 -- The size of row n, of whatever table the slices hold.
 pub record SizeIs (m : Model) (n : ℕ) (w d : List ℕ) (r : Size) : Type 0 where
-  pub of : (t : Table) → InWords t w → InWides t d → r ≡ told (sizeOf (model m) t n)
+  pub of : (t : Table) → InWords t w → Extents t d → r ≡ told (sizeOf (model m) t n)
 
 abbrev pub align : Align → Option ℕ
 align (Align·Known a) = some a
@@ -61,9 +67,9 @@ ownAlign m kind extent =
 
 -- The alignment of row n as far as some levels deep, of whatever table the slices hold and with as many members as the code was told.
 pub record AlignIs (levels : ℕ) (m : Model) (members n : ℕ) (w d : List ℕ) (r : Align) : Type 0 where
-  pub of : (t : Table) → InWords t w → InWides t d → members ≡ length (t .members) → align r ≡ alignWithin levels (model m) t n
+  pub of : (t : Table) → InWords t w → Extents t d → members ≡ length (t .members) → align r ≡ alignWithin levels (model m) t n
 
 -- The largest of its members.
 pub record StrictestIs (levels : ℕ) (m : Model) (members n : ℕ) (w d : List ℕ) (r : Align) : Type 0 where
-  pub of : (t : Table) → InWords t w → InWides t d → members ≡ length (t .members)
+  pub of : (t : Table) → InWords t w → Extents t d → members ≡ length (t .members)
     → align r ≡ largest (λ k. alignWithin levels (model m) t k) (membersOf t n (spanOf (rowAt t n)))

@@ -119,14 +119,7 @@ fn merged_bits(w: &[u32], n: u32, q: Qualifiers) -> u32
 }
 
 // Row n with qualifiers.
-fn add_qualified(
-    w: &mut [u32],
-    d: &mut [u64],
-    v: &mut [i64],
-    c: Cursor,
-    flags: u32,
-    n: u32,
-) -> Step
+fn add_qualified(w: &mut [u32], d: &mut [u64], v: &mut [i64], c: Cursor, flags: u32, n: u32) -> Step
     requires { ⌜ Held c (now w) (now d) (now v) ⌝ }
     ensures { λ r. ⌜ DoesAs qualifierBits flags (λ q. add (qualified n q)) c (now (w .entry)) (now (d .entry)) (now (v .entry)) (step r) (now (w .exit)) (now (d .exit)) (now (v .exit)) ⌝ }
 {

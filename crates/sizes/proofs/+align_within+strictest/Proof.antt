@@ -30,10 +30,10 @@ use borrow.Author.Tests.{not-true, not-false}
 use Rattle.definition.specs.Row.{spanOf}
 use Rattle.definition.specs.Table.{Table, carrying, rowAt}
 use Rattle.definition.specs.Align.{orOne, largest, alignWithin}
-use Rattle.table.specs.Held.{InWords, InWides}
+use Rattle.table.specs.Held.{InWords}
 use Rattle.words.specs.Meaning.{model}
-use Rattle.sizes.specs.Measure.{align}
-use Rattle.sizes.proofs.Sized.{no-levels, composite-aligned, alias-aligned, own-aligned}
+use Rattle.sizes.specs.Measure.{align, Extents}
+use Rattle.sizes.proofs.Sized.{extent-of, no-levels, composite-aligned, alias-aligned, own-aligned}
 use Rattle.sizes.proofs.Gathered.{Gathers, gathered, ended, skips, takes}
 
 abbrev μ-align-within : Measures 2 align-within-kinds.ps ℕ
@@ -359,10 +359,10 @@ align-within-returns-4 : (t : ℕ) → align-within-lts.Need-returns-4 (
   own-align-reads.Asked,
   own-align-reads.Learnt,
 ) (align-within-at t) align-within.Post
-align-within-returns-4 t c = record { of = λ t₁ h g e. c .own-align .ensures ∙ sym (own-aligned _ t₁ _ _ (c .before .before .before .before .before .before .before .if1 .left) (c .before .before .before .before .before .before .row-kind .ensures .of t₁ h) (sym (c .before .before .before .before .before .among .ensures) ∙ c .before .before .before .before .if2 .left) (c .before .row-extent .ensures .of t₁ g) (sym (c .before .before .before .among2 .ensures) ∙ c .before .before .if3 .left)) }
+align-within-returns-4 t c = record { of = λ t₁ h g e. c .own-align .ensures ∙ sym (own-aligned _ t₁ _ _ (c .before .before .before .before .before .before .before .if1 .left) (c .before .before .before .before .before .before .row-kind .ensures .of t₁ h) (sym (c .before .before .before .before .before .among .ensures) ∙ c .before .before .before .before .if2 .left) (extent-of _ (c .before .row-extent .ensures) g) (sym (c .before .before .before .among2 .ensures) ∙ c .before .before .if3 .left)) }
 
 abbrev strictest-Inv-loop : strictest-lts.InvT-loop
-strictest-Inv-loop m w d members n levels i₀ left₀ best₀ i left best = (t : Table) → InWords t w → InWides t d → members ≡ length (t .members)
+strictest-Inv-loop m w d members n levels i₀ left₀ best₀ i left best = (t : Table) → InWords t w → Extents t d → members ≡ length (t .members)
     → Gathers (λ k. alignWithin levels (model m) t k) n (t .members) i left (align best) (largest (λ k. alignWithin levels (model m) t k) (carrying (λ x. x .row) n left₀ (drop i₀ (t .members))))
 
 abbrev strictest-μ-loop : strictest-lts.MeasureT-loop

@@ -19,7 +19,7 @@ use mathlib.Core.Path.{_≡_, refl, sym, ap, _∙_}
 use borrow.Author.Tests.{not-true, not-false}
 use Rattle.sizes.specs.Measure.{told}
 use Rattle.sizes.proofs.Told.{unknown!}
-use Rattle.sizes.proofs.Sized.{own-sized, not-below, alias-sized, unsized, array-sized}
+use Rattle.sizes.proofs.Sized.{extent-of, own-sized, not-below, alias-sized, unsized, array-sized}
 
 abbrev μ-size-of : Measures 2 size-of-kinds.ps ℕ
 μ-size-of κs a = a .1 .1 .1 .0
@@ -148,7 +148,7 @@ size-of-returns : (t : ℕ) → size-of-lts.Need-returns (
   times-reads.Asked,
   times-reads.Learnt,
 ) (size-of-at t) size-of.Post
-size-of-returns t c = record { of = λ t₁ h g. c .own-size .ensures .is ∙ ap told (sym (own-sized _ t₁ _ (c .before .before .before .before .before .row-kind .ensures .of t₁ h) (c .before .before .before .before .row-flags .ensures .of t₁ h) (c .before .before .before .row-extent .ensures .of t₁ g) (sym (c .before .before .among .ensures) ∙ not-true _ (c .before .if1 .taken)))) }
+size-of-returns t c = record { of = λ t₁ h g. c .own-size .ensures .is ∙ ap told (sym (own-sized _ t₁ _ (c .before .before .before .before .before .row-kind .ensures .of t₁ h) (c .before .before .before .before .row-flags .ensures .of t₁ h) (extent-of _ (c .before .before .before .row-extent .ensures) g) (sym (c .before .before .among .ensures) ∙ not-true _ (c .before .if1 .taken)))) }
 
 size-of-row-target-requires : (t : ℕ) → size-of-lts.Need-row-target-requires (
   row-kind-reads.Asked,
@@ -290,7 +290,7 @@ size-of-returns-5 : (t : ℕ) → size-of-lts.Need-returns-5 (
   times-reads.Learnt,
 ) (size-of-at t) size-of.Post
 size-of-returns-5 t c = record { of = λ t₁ h g. c .times .ensures .of _ (c .before .before .before .size-of .ensures .of t₁ h g)
-    ∙ ap told (sym (array-sized _ t₁ _ (c .before .before .before .before .before .before .before .before .before .before .row-kind .ensures .of t₁ h) (c .before .before .before .before .before .row-target .ensures .of t₁ h) (sym (c .before .before .before .before .before .before .before .among .ensures) ∙ not-false _ (c .before .before .before .before .before .before .if1 .left)) (c .before .before .before .before .before .before .before .before .before .row-flags .ensures .of t₁ h) (c .before .before .before .before .before .before .before .before .row-extent .ensures .of t₁ g) (c .before .before .before .before .if2 .left) (c .before .before .if3 .left) (c .before .if4 .left))) }
+    ∙ ap told (sym (array-sized _ t₁ _ (c .before .before .before .before .before .before .before .before .before .before .row-kind .ensures .of t₁ h) (c .before .before .before .before .before .row-target .ensures .of t₁ h) (sym (c .before .before .before .before .before .before .before .among .ensures) ∙ not-false _ (c .before .before .before .before .before .before .if1 .left)) (c .before .before .before .before .before .before .before .before .before .row-flags .ensures .of t₁ h) (extent-of _ (c .before .before .before .before .before .before .before .before .row-extent .ensures) g) (c .before .before .before .before .if2 .left) (c .before .before .if3 .left) (c .before .if4 .left))) }
 
 pub +size-of-spec : {M : Type 1} → statement M
 +size-of-spec = close μ-size-of λ t. size-of-lts.spec (

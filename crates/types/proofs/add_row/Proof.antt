@@ -7,8 +7,8 @@ use Rattle.table.proofs.push_row.Reads as push-row-reads
 use Rattle.types.proofs.equal_row.Reads as equal-row-reads
 use mathlib.Core.Path.{_≡_, refl, sym, ap, _∙_}
 use Rattle.definition.specs.Types.{add, equalRow}
-use Rattle.table.proofs.Branch.{some!, none!}
-use Rattle.table.proofs.Shown.{got!}
+use Rattle.table.proofs.Branch.{some!, none! }
+use Rattle.table.proofs.Shown.{got! }
 use Rattle.rows.specs.Finds.{found}
 
 equal-row-requires : tie.Need-equal-row-requires

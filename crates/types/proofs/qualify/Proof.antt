@@ -15,7 +15,7 @@ use Rattle.definition.specs.Table.{rowAt}
 use Rattle.definition.specs.Types.{qualify, add, merged, qualifiersOf}
 use Rattle.table.specs.Held.{state}
 use Rattle.table.proofs.Branch.{by, yes!, nay!, eq+, eq-}
-use Rattle.table.proofs.Shown.{got!}
+use Rattle.table.proofs.Shown.{got! }
 use Rattle.words.specs.Meaning.{qualifiers}
 
 is-unqualified-requires : tie.Need-is-unqualified-requires
@@ -48,9 +48,11 @@ same-length-3 c = search needs
 
 returns-2 : tie.Need-returns-2
 unfolding qualify
-returns-2 c = record { run = λ t h. nay! _ _ _ (sym (c .before .before .before .before .before .before .before .before .before .before .before .before .before .before .before .before .before .is-unqualified .ensures) ∙ c .before .before .before .before .before .before .before .before .before .before .before .before .before .before .before .before .if1 .left) (eq+ _ _ _ _ (sym (c .before .before .before .before .before .before .before .before .before .before .before .before .before .before .row-kind .ensures .of t (h .words)) ∙ c .before .before .before .before .before .before .before .before .before .before .before .before .before .if2 .taken)
-    (by (ap (λ z. add (qualified z (merged (qualifiersOf (rowAt t (c .before .before .before .before .before .before .before .before .before .before .before .before .before .before .before .before .before .before .before .before .args .n))) (qualifiers (c .before .before .before .before .before .before .before .before .before .before .before .before .before .before .before .before .before .before .before .before .args .q)))) (state (c .before .before .before .before .before .before .before .before .before .before .before .before .before .before .before .before .before .before .before .before .args .c) t)) (sym (c .before .before .before .before .before .before .row-target .ensures .of t (h .words))))
-    (c .before .before .before .before .before .add-qualified .ensures .of (merged (qualifiersOf (rowAt t (c .before .before .before .before .before .before .before .before .before .before .before .before .before .before .before .before .before .before .before .before .args .n))) (qualifiers (c .before .before .before .before .before .before .before .before .before .before .before .before .before .before .before .before .before .before .before .before .args .q))) (c .before .before .before .before .before .before .before .before .merged-bits .ensures .of t (h .words) (sym (c .before .before .before .before .before .before .before .before .before .before .before .before .before .before .row-kind .ensures .of t (h .words)) ∙ c .before .before .before .before .before .before .before .before .before .before .before .before .before .if2 .taken)) .run t h))) }
+returns-2 c = record {
+  run = λ t h. nay! _ _ _ (sym (c .before .before .before .before .before .before .before .before .before .before .before .before .before .before .before .before .before .is-unqualified .ensures) ∙ c .before .before .before .before .before .before .before .before .before .before .before .before .before .before .before .before .if1 .left) (eq+ _ _ _ _ (sym (c .before .before .before .before .before .before .before .before .before .before .before .before .before .before .row-kind .ensures .of t (h .words)) ∙ c .before .before .before .before .before .before .before .before .before .before .before .before .before .if2 .taken)
+      (by (ap (λ z. add (qualified z (merged (qualifiersOf (rowAt t (c .before .before .before .before .before .before .before .before .before .before .before .before .before .before .before .before .before .before .before .before .args .n))) (qualifiers (c .before .before .before .before .before .before .before .before .before .before .before .before .before .before .before .before .before .before .before .before .args .q)))) (state (c .before .before .before .before .before .before .before .before .before .before .before .before .before .before .before .before .before .before .before .before .args .c) t)) (sym (c .before .before .before .before .before .before .row-target .ensures .of t (h .words))))
+      (c .before .before .before .before .before .add-qualified .ensures .of (merged (qualifiersOf (rowAt t (c .before .before .before .before .before .before .before .before .before .before .before .before .before .before .before .before .before .before .before .before .args .n))) (qualifiers (c .before .before .before .before .before .before .before .before .before .before .before .before .before .before .before .before .before .before .before .before .args .q))) (c .before .before .before .before .before .before .before .before .merged-bits .ensures .of t (h .words) (sym (c .before .before .before .before .before .before .before .before .before .before .before .before .before .before .row-kind .ensures .of t (h .words)) ∙ c .before .before .before .before .before .before .before .before .before .before .before .before .before .if2 .taken)) .run t h)));
+}
 
 bits-requires : tie.Need-bits-requires
 bits-requires c κs = search needs
@@ -69,8 +71,10 @@ same-length-6 c = search needs
 
 returns-3 : tie.Need-returns-3
 unfolding qualify
-returns-3 c = record { run = λ t h. nay! _ _ _ (sym (c .before .before .before .before .before .before .before .before .before .before .before .before .before .before .is-unqualified .ensures) ∙ c .before .before .before .before .before .before .before .before .before .before .before .before .before .if1 .left) (eq- _ _ _ _ (λ e. c .before .before .before .before .before .before .before .before .before .before .if2 .left (c .before .before .before .before .before .before .before .before .before .before .before .row-kind .ensures .of t (h .words) ∙ e))
-    (c .before .before .before .before .before .add-qualified2 .ensures .of (qualifiers (c .before .before .before .before .before .before .before .before .before .before .before .before .before .before .before .before .before .args .q)) (c .before .before .before .before .before .before .bits .ensures) .run t h)) }
+returns-3 c = record {
+  run = λ t h. nay! _ _ _ (sym (c .before .before .before .before .before .before .before .before .before .before .before .before .before .before .is-unqualified .ensures) ∙ c .before .before .before .before .before .before .before .before .before .before .before .before .before .if1 .left) (eq- _ _ _ _ (λ e. c .before .before .before .before .before .before .before .before .before .before .if2 .left (c .before .before .before .before .before .before .before .before .before .before .before .row-kind .ensures .of t (h .words) ∙ e))
+      (c .before .before .before .before .before .add-qualified2 .ensures .of (qualifiers (c .before .before .before .before .before .before .before .before .before .before .before .before .before .before .before .before .before .args .q)) (c .before .before .before .before .before .before .bits .ensures) .run t h));
+}
 
 pub qualify-spec : {M : Type 1} → statement M
 qualify-spec =

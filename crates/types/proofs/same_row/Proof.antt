@@ -19,9 +19,11 @@ same-entries-requires : tie.Need-same-entries-requires
 same-entries-requires c κs = search needs
 
 returns-2 : tie.Need-returns-2
-returns-2 c = record { of = λ t x h e.
-    c .same-entries .ensures .of t x h e (same-count x _ (sym (c .before .before .same-numbers .ensures .of t x (h .words) (h .wides) e) ∙ not-false _ (c .before .if1 .left)))
-    ∙ row-same t x _ _ (sym (c .before .before .same-numbers .ensures .of t x (h .words) (h .wides) e) ∙ not-false _ (c .before .if1 .left)) }
+returns-2 c = record {
+  of = λ t x h e.
+      c .same-entries .ensures .of t x h e (same-count x _ (sym (c .before .before .same-numbers .ensures .of t x (h .words) (h .wides) e) ∙ not-false _ (c .before .if1 .left)))
+      ∙ row-same t x _ _ (sym (c .before .before .same-numbers .ensures .of t x (h .words) (h .wides) e) ∙ not-false _ (c .before .if1 .left));
+}
 
 pub same-row-spec : {M : Type 1} → statement M
 same-row-spec = tie.close (tie.spec same-numbers-requires returns same-entries-requires returns-2)

@@ -1,9 +1,9 @@
 use borrow.Author.Needs.{needs}
-use Rattle.constants.proofs.literal.Statement.{statement}
-use Rattle.constants.proofs.literal.Tie as tie
+use Rattle.arithmetic.proofs.literal.Statement.{statement}
+use Rattle.arithmetic.proofs.literal.Tie as tie
 use borrow.Author.Needs.{sfits-of}
 use native.Mathlib.Omega.{arith}
 use Rattle.arithmetic.proofs.Told.{made, beyond}
 
 returns : tie.Need-returns
 returns c = beyond (record { past = c .if1 .taken })

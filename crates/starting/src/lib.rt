@@ -1,0 +1,1 @@
+// The first table, in proofs/: slices of zeros hold it. There is no code here.
