@@ -12,7 +12,7 @@ use Rattle.definition.specs.Layout as layout
 use Rattle.placing.specs.Outcome.{laidOf, placed}
 use Rattle.placing.specs.declared.Laid.{Laid}
 use Rattle.placing.specs.declared.Placed.the-variants.{At, Overflow}
-use Rattle.placing.proofs.RoundUp.{whole-parts, unit-start, unit-in-parts}
+use Rattle.placing.proofs.RoundUp.{whole-parts, unit-start}
 use Rattle.placing.proofs.Told.{then-in, then-out}
 
 module _ (e : Member) (a : ℕ) (p : 0 < a) (l : layout.Laid) where
@@ -49,7 +49,19 @@ module _ (e : Member) (a : ℕ) (p : 0 < a) (l : layout.Laid) where
   unfolding placed zeroField
   zero-out h = sym (then-out (e .offset) _ (omega (arith, start-bits)))
 
-  -- ---- bit-fields of width w, in units of u bytes
+  -- ---- bit-fields of width w
+
+  module _ (w unit : ℕ) where
+    pub field-at : (b o : ℕ) (l′ : Laid) → o ≡ b / unit * unit / 8 → b + w < 2 ^ 64 → laidOf l′ ≡ advanced l (b + w) a → placed (At o b l′) e ≡ fieldAt e w unit a l b
+    unfolding placed fieldAt
+    field-at b o l′ x h m =
+        ap (λ y. got (located e o b, y)) m ∙ ap (λ y. got (located e y b, advanced l (b + w) a)) x ∙ sym (then-in (e .offset) _ h)
+
+    pub field-out : (b : ℕ) → 2 ^ 64 ≤ b + w → placed Overflow e ≡ fieldAt e w unit a l b
+    unfolding placed fieldAt
+    field-out b h = sym (then-out (e .offset) _ h)
+
+  -- in units of u bytes
 
   module _ (w u : ℕ) (z : 0 < u) where
     abbrev unit-end : ℕ
@@ -57,15 +69,6 @@ module _ (e : Member) (a : ℕ) (p : 0 < a) (l : layout.Laid) where
 
     unit-is : l .taken / (8 * u) * (8 * u) + 8 * u ≡ unit-end
     unit-is = omega (arith, unit-start (l .taken) 8 u)
-
-    pub field-at : (b : ℕ) (l′ : Laid) → b + w < 2 ^ 64 → laidOf l′ ≡ advanced l (b + w) a → placed (At (b / 8 / u * u) b l′) e ≡ fieldAt e w (8 * u) a l b
-    unfolding placed fieldAt
-    field-at b l′ h m =
-        ap (λ x. got (located e (b / 8 / u * u) b, x)) m ∙ ap (λ o. got (located e o b, advanced l (b + w) a)) (sym (unit-in-parts b 8 u (omega arith))) ∙ sym (then-in (e .offset) _ h)
-
-    pub field-out : (b : ℕ) → 2 ^ 64 ≤ b + w → placed Overflow e ≡ fieldAt e w (8 * u) a l b
-    unfolding placed fieldAt
-    field-out b h = sym (then-out (e .offset) _ h)
 
     pub unit-out : 2 ^ 64 ≤ unit-end → placed Overflow e ≡ bitField e w (8 * u) a l
     unfolding placed bitField
@@ -86,7 +89,7 @@ module _ (e : Member) (a : ℕ) (p : 0 < a) (l : layout.Laid) where
         ∙ sym (then-in (e .offset) _ (omega (arith, unit-is)))
 
     pub start-out : 2 ^ 64 ≤ 8 * (start / 8) → placed Overflow e ≡ fieldAt e w (8 * u) a l start
-    start-out h = field-out start (omega (arith, start-bits))
+    start-out h = field-out w (8 * u) start (omega (arith, start-bits))
 
 -- ---- by the width that the table holds
 

@@ -147,19 +147,22 @@ pub fn zero_field(l: Laid, align: u64) -> Placed
     Placed::At(place, end, advanced(l, end, align))
 }
 
-// A bit-field that begins at bit `first`: "its byte offset is that of the unit holding the first bit".
-pub fn field_at(l: Laid, width: u64, size: u64, align: u64, first: u64) -> Placed
-    ensures { λ r. ⌜ ((e : Member) → placed r e ≡ fieldAt e width (8 * max size 1) (max align 1) (laidOf l) first) ⌝ }
+// The byte where the unit begins that holds a bit.
+pub fn unit_at(bit: u64, size: u64) -> u64
+    ensures { λ r. ⌜ r ≡ bit / (8 * max size 1) * (8 * max size 1) / 8 ⌝ }
+{
+    let unit = larger(size, 1);
+    bit / BYTE / unit * unit
+}
+
+// A bit-field that begins at bit `first`, and at byte `offset`: "its byte offset is that of the unit holding the first bit".
+pub fn field_at(l: Laid, width: u64, align: u64, first: u64, offset: u64) -> Placed
+    ensures { λ r. ⌜ ((e : Member) (unit : ℕ) → offset ≡ first / unit * unit / 8 → placed r e ≡ fieldAt e width unit (max align 1) (laidOf l) first) ⌝ }
 {
     if MOST - first < width {
         return Placed::Overflow;
     }
-    let unit = larger(size, 1);
-    Placed::At(
-        first / BYTE / unit * unit,
-        first,
-        advanced(l, first + width, align),
-    )
+    Placed::At(offset, first, advanced(l, first + width, align))
 }
 
 // "A bit-field that would pass its unit (type size, at least 1 byte) moves to its alignment"
@@ -167,13 +170,13 @@ pub fn bit_field(l: Laid, width: u64, size: u64, align: u64) -> Placed
     ensures { λ r. ⌜ ((e : Member) → placed r e ≡ bitField e width (8 * max size 1) (max align 1) (laidOf l)) ⌝ }
 {
     let taken = l.taken;
-    let unit = larger(size, 1);
-    let u = end_of(taken / BYTE / unit * unit, unit);
+    let unit = unit_at(taken, size);
+    let u = end_of(unit, larger(size, 1));
     let Exact::Number(unit_end) = u else {
         return Placed::Overflow;
     };
     if width <= unit_end - taken {
-        return field_at(l, width, size, align, taken);
+        return field_at(l, width, align, taken, unit);
     }
     let n = next_place(taken, align);
     let Exact::Number(place) = n else {
@@ -183,7 +186,7 @@ pub fn bit_field(l: Laid, width: u64, size: u64, align: u64) -> Placed
     let Exact::Number(first) = m else {
         return Placed::Overflow;
     };
-    field_at(l, width, size, align, first)
+    field_at(l, width, align, first, unit_at(first, size))
 }
 
 // A member of a struct. Its width is as the table holds it: 0 for a plain member, else 1 more than the bit-field's width.

@@ -1,21 +1,21 @@
 -- How the views change with the entries. Assumes nothing.
 use mathlib.Core.Path.{_≡_, refl, sym, ap, _∙_}
-use mathlib.Core.List.{List, _∷_}
+use mathlib.Core.List.{List, [], _∷_}
 use mathlib.Core.Bool.{Bool, true, false}
 use Prim.Native.Nat.{ℕ, zero, suc, _+_, _-_, _*_, _/_, _%_, _^_, _≤_, _<_}
 use native.Mathlib.Omega.{arith}
 use native.Mathlib.Numerals.{add-one}
-use lib.ListN.{length, getD, set, length-set}
+use lib.ListN.{length, getD, set, take, length-set, length-drop}
 use native.Mathlib.Nat.{lt-of-not-le}
 use native.Mathlib.Decide.{decLe}
 use lib.Dec.{eqb, leb}
-use lib.Seq.{getD-set-same, getD-set-other}
+use lib.Seq.{getD-set-same, getD-set-other, length-take-le}
 use borrow.Author.Tests.{le-leb, lt-leb, ne-eqb}
 use Rattle.definition.specs.Limit.{maxSteps}
 use Rattle.definition.specs.Row.{Qualifiers, bit}
-use Rattle.definition.specs.Grammar.{DeclaratorStep, functionStep}
+use Rattle.definition.specs.Grammar.{DeclaratorStep, pointerStep, functionStep}
 use Rattle.definition.specs.Declarator.{starred}
-use Rattle.steps.specs.Pending.{pointerKind, arrayKind, boundedKind, functionKind, qualifiersOf, spanOf, stepFrom, stepsFrom, starsFrom, Pending, pending, released}
+use Rattle.steps.specs.Pending.{pointerKind, arrayKind, boundedKind, functionKind, qualifiersOf, spanOf, stepFrom, stepsFrom, starsFrom, Pending, pending, withStep, withStar, released}
 use Rattle.steps.specs.declared.Steps.{Steps}
 
 -- ---- lengths
@@ -29,6 +29,11 @@ pub length-stars : (os : List ℕ) (n : ℕ) → length (starsFrom os n) ≡ n
 unfolding starsFrom
 length-stars os zero = refl
 length-stars os (suc n) = ap suc (length-stars os n)
+
+length-starred : (qs : List Qualifiers) (xs : List DeclaratorStep) → length (starred qs xs) ≡ length qs + length xs
+unfolding starred
+length-starred [] xs = omega arith
+length-starred (q ∷ qs) xs = let e = length-starred qs (pointerStep q ∷ xs) in omega arith
 
 -- ---- one step more
 
@@ -166,3 +171,25 @@ releases n i s t r h =
 pub all-released : (n i : ℕ) (s t : Steps) → Releasing n s t i → n ≤ i → pending t ≡ released n (pending s)
 unfolding starred
 all-released n i s t r h = let e : n - i ≡ 0 = omega arith in sym (r .same ∙ ap (λ m. released m (pending t)) e)
+
+-- ---- for callers: the counts, from what is pending
+
+pub len-is : (s : Steps) {p : Pending} → pending s ≡ p → s .len ≡ length (p .steps)
+len-is s e = sym (length-steps (s .kinds) (s .operands) (s .len)) ∙ ap (λ p. length (p .steps)) e
+
+pub held-is : (s : Steps) {p : Pending} → pending s ≡ p → s .held ≡ length (p .stars)
+held-is s e = sym (length-stars (s .operands) (s .held)) ∙ ap (λ p. length (p .stars)) e
+
+module _ (r s : Steps) where
+  pub push-counts : {x : DeclaratorStep} → pending r ≡ withStep (pending s) x → (r .len ≡ s .len + 1) × (r .held ≡ s .held)
+  push-counts e = (omega (arith, len-is r e, length-steps (s .kinds) (s .operands) (s .len)), held-is r e ∙ length-stars (s .operands) (s .held))
+
+  pub hold-counts : {q : Qualifiers} → pending r ≡ withStar (pending s) q → (r .len ≡ s .len) × (r .held ≡ s .held + 1)
+  hold-counts e = (len-is r e ∙ length-steps (s .kinds) (s .operands) (s .len), omega (arith, held-is r e, length-stars (s .operands) (s .held)))
+
+  pub release-counts : (n : ℕ) → n ≤ s .held → pending r ≡ released n (pending s) → (r .len ≡ s .len + n) × (r .held + n ≡ s .held)
+  release-counts n h e =
+      let k = length-stars (s .operands) (s .held) in (
+        omega (arith, len-is r e, length-starred (take n (starsFrom (s .operands) (s .held))) (stepsFrom (s .kinds) (s .operands) (s .len)), length-take-le n (starsFrom (s .operands) (s .held)) (omega arith), length-steps (s .kinds) (s .operands) (s .len)),
+        omega (arith, held-is r e, length-drop n (starsFrom (s .operands) (s .held))),
+      )

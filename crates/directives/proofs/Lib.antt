@@ -1,0 +1,2 @@
+pub mod Macro
+pub mod Lines

@@ -1,0 +1,4 @@
+pub mod Going
+pub mod Table
+pub mod Past
+pub mod Branch
