@@ -214,9 +214,8 @@ pub fn binary(
 ) -> Reading
     ensures { λ r. ⌜ read r ≡ level (tokens (now (kinds .entry)) (now (numbers .entry))) (lastValue (now (words .entry)) (now (values .entry)) count) room .chain low (c .at) ⌝ }
 {
-    let start = c.at;
     if room == 0 {
-        return Reading::Refused(TOO_DEEP, start);
+        return Reading::Refused(TOO_DEEP, c.at);
     }
     let r = unary(kinds, numbers, words, values, count, c, room);
     let Reading::Value(t, x) = r else {
@@ -225,7 +224,6 @@ pub fn binary(
     let mut s = t;
     let mut left = x;
     loop {
-        let at = s.at;
         let k = s.kind(kinds);
         let p = operators::precedence_of(k);
         if p <= low {
@@ -235,7 +233,7 @@ pub fn binary(
         let Reading::Value(u, y) = q else {
             return q;
         };
-        let n = settled(operators::operate(k, left, y), u, at);
+        let n = settled(operators::operate(k, left, y), u, s.at);
         let Reading::Value(e, z) = n else {
             return n;
         };
@@ -256,9 +254,8 @@ pub fn conditional(
 ) -> Reading
     ensures { λ r. ⌜ read r ≡ level (tokens (now (kinds .entry)) (now (numbers .entry))) (lastValue (now (words .entry)) (now (values .entry)) count) room .condition (c .at) ⌝ }
 {
-    let start = c.at;
     if room == 0 {
-        return Reading::Refused(TOO_DEEP, start);
+        return Reading::Refused(TOO_DEEP, c.at);
     }
     let r = binary(kinds, numbers, words, values, count, c, NO_PRECEDENCE, room);
     let Reading::Value(t, x) = r else {
