@@ -6,7 +6,6 @@ pub data Answer (A : Type 0) : Type 0 where
   refused : ℕ → ℕ → Answer A
 
 infixl 1 _>>=_
-
 -- "the first found is given": what follows a refusal is not looked at
 unfoldable pub _>>=_ : {A B : Type 0} → Answer A → (A → Answer B) → Answer B
 (got a) >>= f = f a

@@ -24,7 +24,6 @@ use Rattle.definition.specs.Spelling.{Spelling, knownName}
 use Rattle.definition.specs.Token.{Token, Lexed, columns}
 use Rattle.definition.specs.Kind as kind
 
-
 -- "Domain: bytes 0 to 127"
 abbrev pub lastByte : ℕ
 lastByte = 127

@@ -37,13 +37,14 @@ readWith m entry text = do
 -- "model not 0 to 2, or a lent table shorter than its limit; offset 0"
 unfoldable pub read : ℕ → Bool → Entry → Bytes → Answer Accepted
 read model lentEnough entry text = elim (modelOf model) [
-    none ↦ refused badCall 0
-  | some m ↦ elim lentEnough [ true ↦ readWith m entry text | false ↦ refused badCall 0 ] ]
+  | none ↦ refused badCall 0
+  | some m ↦ elim lentEnough [ true ↦ readWith m entry text | false ↦ refused badCall 0 ]
+]
 
 -- What the caller is told: the table's counts are its lengths, and a refusal has its line and column.
 pub data Outcome : Type 0 where
   accepted : Accepted → Outcome
-  rejected : ℕ → ℕ → ℕ → ℕ → Outcome      -- number, offset, line, column
+  rejected : ℕ → ℕ → ℕ → ℕ → Outcome  -- number, offset, line, column
 
 unfoldable pub told : Bytes → Answer Accepted → Outcome
 told text (got a) = accepted a

@@ -35,8 +35,9 @@ ownValues first n vs = changedFrom (λ e. eqb (e .row) (markOf first)) (λ e. wi
 -- the values of a body that was replaced carry row 0
 unfoldable pub releaseValues : Row → ℕ → List Value → List Value
 releaseValues old n vs = elim (eqb (spanOf old .count) 0) [
-    true ↦ vs
-  | false ↦ changedFrom (λ e. eqb (e .row) n) (λ e. withRow e 0) 0 vs ]
+  | true ↦ vs
+  | false ↦ changedFrom (λ e. eqb (e .row) n) (λ e. withRow e 0) 0 vs
+]
 
 -- "An enum is 4 bytes if all values lie in -2^31 to 2^32 - 1, else 8."
 unfoldable pub allFit : List Value → Bool
@@ -57,7 +58,7 @@ enumTagRow bytes w s = elim (enumRow (s .table) w) [ some n ↦ got (n, s) | non
 -- the body of tag w, whose row is n
 unfoldable pub defineEnum : ℕ → ℕ → ℕ → Span → State → State
 defineEnum w n bytes e s = withTable s (logged
-  (withValues (withRows (s .table) (set (s .table .rows) n (enumeration w bytes e)))
+    (withValues (withRows (s .table) (set (s .table .rows) n (enumeration w bytes e)))
     (ownValues (e .first) n (releaseValues (rowAt (s .table) n) n (s .table .values)))) (bodied w))
 
 abbrev pub valuesOwned : ℕ → ℕ → State → State
@@ -66,28 +67,30 @@ valuesOwned first n s = withTable s (withValues (s .table) (ownValues first n (s
 -- a body without a tag: an equal row, and then its values carry row 0, or a new one
 unfoldable pub addEnum : ℕ → Span → Reads ℕ
 addEnum bytes e s = elim (equalRow (s .table) (enumeration noName bytes e) 0 (s .table .rows)) [
-    some n ↦ got (n, valuesOwned (e .first) 0 s)
+  | some n ↦ got (n, valuesOwned (e .first) 0 s)
   | none ↦ (do
-      r ← pushRow (enumeration noName bytes e) s
-      got (r .0, valuesOwned (e .first) (r .0) (r .1))) ]
+    r ← pushRow (enumeration noName bytes e) s
+    got (r .0, valuesOwned (e .first) (r .0) (r .1)))
+]
 
 -- `enum` and a tag without braces, noted for the conditions of demand 3; `enum` alone is refused
 unfoldable pub bareEnum : Model → ℕ → ℕ → Reads ℕ
 bareEnum m w at s = elim (eqb w noName) [
-    true ↦ refused missingName at
+  | true ↦ refused missingName at
   | false ↦ (do
-      r ← enumTagRow (m .enumSize) w s
-      got (r .0, withTable (r .1) (logged (r .1 .table) (used w)))) ]
+    r ← enumTagRow (m .enumSize) w s
+    got (r .0, withTable (r .1) (logged (r .1 .table) (used w))))
+]
 
 unfoldable pub closeEnum : ℕ → ℕ → Span → Reads ℕ
 closeEnum w bytes e s = elim (eqb w noName) [
-    true ↦ addEnum bytes e s
+  | true ↦ addEnum bytes e s
   | false ↦ (do
-      r ← enumTagRow bytes w s
-      got (r .0, defineEnum w (r .0) bytes e (r .1))) ]
+    r ← enumTagRow bytes w s
+    got (r .0, defineEnum w (r .0) bytes e (r .1)))
+]
 
 module _ (ts : Tokens) (m : Model) (next : Levels) where
-
   -- `= constant`, or the value after the one before
   unfoldable pub enumeratorValue : ℤ → Reads ℤ
   enumeratorValue value s = elim (stands ts equals s) [ true ↦ next .constant (skip s) | false ↦ got (value, s) ]
@@ -95,23 +98,26 @@ module _ (ts : Tokens) (m : Model) (next : Levels) where
   -- one enumerator, at a name: its value, which must be in range
   unfoldable pub enumerator : ℕ → ℤ → Reads ℤ
   enumerator first value s = elim (isName (kindAt ts (s .at))) [
-      false ↦ refused missingMark (s .at)
+    | false ↦ refused missingMark (s .at)
     | true ↦ (do
-        v ← enumeratorValue value (skip s)
-        x ← ranged (s .at) (v .0)
-        e ← pushValue (record { row = markOf first; name = numberAt ts (s .at); value = x }) (v .1)
-        got (x, e .1)) ]
+      v ← enumeratorValue value (skip s)
+      x ← ranged (s .at) (v .0)
+      e ← pushValue (record { row = markOf first; name = numberAt ts (s .at); value = x }) (v .1)
+      got (x, e .1))
+  ]
 
   -- enumerators up to the closing brace; each round reads one
   unfoldable pub enumeratorsFrom : ℕ → ℕ → ℤ → State → Answer State
   enumeratorsFrom zero first value s = refused missingMark (s .at)
   enumeratorsFrom (suc f) first value s = elim (stands ts closeBrace s) [
-      true ↦ got (skip s)
+    | true ↦ got (skip s)
     | false ↦ (do
-        e ← enumerator first value s
-        elim (stands ts comma (e .1)) [
-            true ↦ enumeratorsFrom f first (sucℤ (e .0)) (skip (e .1))
-          | false ↦ needed ts closeBrace (e .1) ]) ]
+      e ← enumerator first value s
+      elim (stands ts comma (e .1)) [
+        | true ↦ enumeratorsFrom f first (sucℤ (e .0)) (skip (e .1))
+        | false ↦ needed ts closeBrace (e .1)
+      ])
+  ]
 
   -- a body after its brace, of tag w or of none
   unfoldable pub enumBody : ℕ → Reads ℕ
@@ -122,11 +128,15 @@ module _ (ts : Tokens) (m : Model) (next : Levels) where
   -- what follows the tag, if any; `at` is the tag's place
   unfoldable pub afterTag : ℕ → ℕ → Reads ℕ
   afterTag w at s =
-    elim (stands ts colon s) [ true ↦ refused fixedEnum at | false ↦
-    elim (stands ts openBrace s) [ true ↦ enumBody w (skip s) | false ↦ bareEnum m w at s ] ]
+      elim (stands ts colon s) [
+        | true ↦ refused fixedEnum at
+        | false ↦
+            elim (stands ts openBrace s) [ true ↦ enumBody w (skip s) | false ↦ bareEnum m w at s ]
+      ]
 
   -- after `enum`
   unfoldable pub enumeration₁ : Reads ℕ
   enumeration₁ s = elim (isName (kindAt ts (s .at))) [
-      true ↦ afterTag (numberAt ts (s .at)) (s .at) (skip s)
-    | false ↦ afterTag noName (s .at) s ]
+    | true ↦ afterTag (numberAt ts (s .at)) (s .at) (skip s)
+    | false ↦ afterTag noName (s .at) s
+  ]

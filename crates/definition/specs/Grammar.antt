@@ -14,8 +14,8 @@ use Rattle.definition.specs.Table.{State, Reads, movedTo}
 -- A step of a declarator: "stars, bounds and parameter lists".
 pub data DeclaratorStep : Type 0 where
   pointerStep : Qualifiers → DeclaratorStep
-  arrayStep : Option ℕ → DeclaratorStep           -- bound
-  functionStep : Bool → Span → DeclaratorStep     -- `...`; parameters
+  arrayStep : Option ℕ → DeclaratorStep  -- bound
+  functionStep : Bool → Span → DeclaratorStep  -- `...`; parameters
 
 -- A declarator: its steps in the order in which a base type takes them, and the name that it declares.
 pub record Declarator : Type 0 where
@@ -33,10 +33,10 @@ withStep d x = record { steps = x ∷ d .steps; name = d .name }
 
 -- The readers that take a level of nesting each, as `guard` counts them (000).
 pub record Levels : Type 0 where
-  pub composite : Bool → Reads ℕ              -- after `struct` (false) or `union` (true): its row
-  pub enumeration : Reads ℕ                   -- after `enum`: its row
-  pub declarator : ℕ → Reads Declarator       -- after a number of steps of the same declarator
-  pub direct : ℕ → Reads Declarator           -- the same, past its stars
+  pub composite : Bool → Reads ℕ  -- after `struct` (false) or `union` (true): its row
+  pub enumeration : Reads ℕ  -- after `enum`: its row
+  pub declarator : ℕ → Reads Declarator  -- after a number of steps of the same declarator
+  pub direct : ℕ → Reads Declarator  -- the same, past its stars
   pub constant : Reads ℤ
 
 -- the token that stands here is of a kind

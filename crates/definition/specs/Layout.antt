@@ -95,14 +95,14 @@ unfoldable pub inUnion : Member → ℕ → ℕ → Laid → Member × Laid
 inUnion e s a l = (located e 0 0, record { taken = l .taken; align = max (l .align) a; widest = widestWith (e .width) (l .widest) s })
 
 module _ (m : Model) (t : Table) (union : Bool) where
-
   -- a member at its place; `last` where no other follows
   unfoldable pub placed : Bool → Member → Laid → Answer (Member × Laid)
   placed last e l = do
     s ← memberSize (sizeOf m t (e .type)) (last && isUnsized (rowAt t (resolve t (e .type)))) (e .offset)
     elim union [
-        true ↦ got (inUnion e s (max (orOne (alignOf m t (e .type))) 1) l)
-      | false ↦ inStruct (e .width) e s (max (orOne (alignOf m t (e .type))) 1) l ]
+      | true ↦ got (inUnion e s (max (orOne (alignOf m t (e .type))) 1) l)
+      | false ↦ inStruct (e .width) e s (max (orOne (alignOf m t (e .type))) 1) l
+    ]
 
   unfoldable pub isLast : ℕ → List Member → Bool
   isLast mark [] = true
@@ -112,21 +112,23 @@ module _ (m : Model) (t : Table) (union : Bool) where
   unfoldable pub placedAll : ℕ → List Member → Laid → Answer (List Member × Laid)
   placedAll mark [] l = got ([], l)
   placedAll mark (e ∷ es) l = elim (eqb (e .row) mark) [
-      true ↦ (do
-        p ← placed (isLast mark es) e l
-        r ← placedAll mark es (p .1)
-        got (p .0 ∷ r .0, r .1))
+    | true ↦ (do
+      p ← placed (isLast mark es) e l
+      r ← placedAll mark es (p .1)
+      got (p .0 ∷ r .0, r .1))
     | false ↦ (do
-        r ← placedAll mark es l
-        got (e ∷ r .0, r .1)) ]
+      r ← placedAll mark es l
+      got (e ∷ r .0, r .1))
+  ]
 
   -- the bytes that the members take: bits are rounded up to whole bytes
   unfoldable pub bytesTaken : ℕ → Laid → Answer ℕ
   bytesTaken at l = elim union [
-      true ↦ got (l .widest)
+    | true ↦ got (l .widest)
     | false ↦ (do
-        b ← within at (roundUp (l .taken) 8)
-        got (b / 8)) ]
+      b ← within at (roundUp (l .taken) 8)
+      got (b / 8))
+  ]
 
   -- "Struct and union end at a multiple of the largest alignment."
   unfoldable pub recordSize : ℕ → Laid → Answer ℕ

@@ -44,10 +44,10 @@ nameWords n = offsetOf n ∷ lengthOf n ∷ []
 
 unfoldable pub tableWords : Table → List ℕ
 tableWords t = padded 0 (6 * maxRows) (flat rowWords (t .rows))
-  ++ padded 0 (4 * maxMembers) (flat memberWords (t .members))
-  ++ padded 0 (2 * maxValues) (flat valueWords (t .values))
-  ++ padded 0 (3 * maxParameters) (flat parameterWords (t .parameters))
-  ++ padded 0 (3 * maxDeclarations) (flat declarationWords (t .declarations))
+    ++ padded 0 (4 * maxMembers) (flat memberWords (t .members))
+    ++ padded 0 (2 * maxValues) (flat valueWords (t .values))
+    ++ padded 0 (3 * maxParameters) (flat parameterWords (t .parameters))
+    ++ padded 0 (3 * maxDeclarations) (flat declarationWords (t .declarations))
 
 unfoldable pub words : Accepted → List ℕ
 words a = tableWords (a .table) ++ padded 0 (2 * maxNames) (flat nameWords (a .names))
@@ -96,7 +96,8 @@ zeroed l = record { words = replicate (length (l .words)) 0; wides = replicate (
 -- "unused entries zero"; on refusal "zero in every lent table", whatever stood there and however long it is
 unfoldable pub leftIn : Lent → Outcome → Lent
 leftIn l (accepted a) = record {
-    words = padded 0 (length (l .words)) (words a)
-  ; wides = padded 0 (length (l .wides)) (wides (a .table))
-  ; signeds = padded (pos 0) (length (l .signeds)) (signeds (a .table)) }
+  words = padded 0 (length (l .words)) (words a);
+  wides = padded 0 (length (l .wides)) (wides (a .table));
+  signeds = padded (pos 0) (length (l .signeds)) (signeds (a .table));
+}
 leftIn l (rejected n at line column) = zeroed l

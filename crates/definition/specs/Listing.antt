@@ -128,7 +128,7 @@ bitWords (some w) b = (decimal b, decimal w)
 -- "A member line: byte offset, first bit and width .., type row, name or `-`."
 unfoldable pub memberLine : Bytes → Member → Bytes
 memberLine text e = line (bytes "member")
-  (decimal (e .offset) ∷ bitWords (e .width) (e .firstBit) .0 ∷ bitWords (e .width) (e .firstBit) .1 ∷ decimal (e .type) ∷ nameWord text (e .name) ∷ [])
+    (decimal (e .offset) ∷ bitWords (e .width) (e .firstBit) .0 ∷ bitWords (e .width) (e .firstBit) .1 ∷ decimal (e .type) ∷ nameWord text (e .name) ∷ [])
 
 -- "`value NUMBER NAME`, `param ROW NAME`"
 unfoldable pub valueLine : Bytes → Value → Bytes

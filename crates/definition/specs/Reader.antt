@@ -33,28 +33,39 @@ constantHere ts s = do
 -- The readers with a number of levels left: with none, "depth above 64".
 unfoldable pub levels : Tokens → Model → ℕ → Levels
 levels ts m zero = record {
-    composite = λ union s. refused tooDeep (s .at); enumeration = λ s. refused tooDeep (s .at)
-  ; declarator = λ used s. refused tooDeep (s .at); direct = λ used s. refused tooDeep (s .at)
-  ; constant = λ s. refused tooDeep (s .at) }
+  composite = λ union s. refused tooDeep (s .at);
+  enumeration = λ s. refused tooDeep (s .at);
+  declarator = λ used s. refused tooDeep (s .at);
+  direct = λ used s. refused tooDeep (s .at);
+  constant = λ s. refused tooDeep (s .at);
+}
 levels ts m (suc room) = let next = levels ts m room in record {
-    composite = composite₁ ts m next; enumeration = enumeration₁ ts m next
-  ; declarator = declarator₁ ts m next; direct = direct₁ ts m next; constant = constantHere ts }
+  composite = composite₁ ts m next;
+  enumeration = enumeration₁ ts m next;
+  declarator = declarator₁ ts m next;
+  direct = direct₁ ts m next;
+  constant = constantHere ts;
+}
 
 -- ---- declarations
 
 -- what a mark adds to the depth of an initialiser
 unfoldable pub nested : ℕ → ℤ → ℤ
 nested k depth =
-  elim (eqb k openBrace || (eqb k openParen || eqb k openBracket)) [ true ↦ sucℤ depth | false ↦
-  elim (eqb k closeBrace || (eqb k closeParen || eqb k closeBracket)) [ true ↦ predℤ depth | false ↦ depth ] ]
+    elim (eqb k openBrace || (eqb k openParen || eqb k openBracket)) [
+      | true ↦ sucℤ depth
+      | false ↦
+          elim (eqb k closeBrace || (eqb k closeParen || eqb k closeBracket)) [ true ↦ predℤ depth | false ↦ depth ]
+    ]
 
 -- an initialiser is skipped: to a comma or semicolon outside its braces, or to the end
 unfoldable pub skipInitialiser : Tokens → ℕ → ℤ → State → State
 skipInitialiser ts zero depth s = s
 skipInitialiser ts (suc f) depth s =
-  elim (stands ts end s || ((stands ts comma s || stands ts semicolon s) && leZ depth (pos 0))) [
-      true ↦ s
-    | false ↦ skipInitialiser ts f (nested (kindAt ts (s .at)) depth) (skip s) ]
+    elim (stands ts end s || ((stands ts comma s || stands ts semicolon s) && leZ depth (pos 0))) [
+      | true ↦ s
+      | false ↦ skipInitialiser ts f (nested (kindAt ts (s .at)) depth) (skip s)
+    ]
 
 unfoldable pub initialiser : Tokens → State → State
 initialiser ts s = elim (stands ts equals s) [ true ↦ skipInitialiser ts (suc (left ts (s .at))) (pos 0) (skip s) | false ↦ s ]
@@ -62,8 +73,9 @@ initialiser ts s = elim (stands ts equals s) [ true ↦ skipInitialiser ts (suc 
 -- a typedef's row; "typedef name given another type" is refused at the declarator's place
 unfoldable pub defineTypedef : ℕ → ℕ → ℕ → Reads ℕ
 defineTypedef w b at s = elim (typedefRow (s .table) w) [
-    some n ↦ elim (eqb (targetOf (rowAt (s .table) n)) b) [ true ↦ got (n, s) | false ↦ refused typedefChanged at ]
-  | none ↦ pushRow (typedef w b) s ]
+  | some n ↦ elim (eqb (targetOf (rowAt (s .table) n)) b) [ true ↦ got (n, s) | false ↦ refused typedefChanged at ]
+  | none ↦ pushRow (typedef w b) s
+]
 
 unfoldable pub isTypedef : Storage → Bool
 isTypedef c = eqb (storageNumber c) (storageNumber typedefStorage)
@@ -78,7 +90,6 @@ declare c b w s = do
   got (d .1)
 
 module _ (ts : Tokens) (m : Model) where
-
   -- a declaration takes a level itself
   abbrev pub inner : Levels
   inner = levels ts m (maxDepth - 1)
@@ -89,10 +100,11 @@ module _ (ts : Tokens) (m : Model) where
     d ← inner .declarator 0 s
     r ← apply (d .0 .steps) b (d .1)
     elim (eqb (d .0 .name) noName) [
-        true ↦ refused missingName (s .at)
+      | true ↦ refused missingName (s .at)
       | false ↦ (do
-          n ← declaredRow c (d .0 .name) (r .0) (s .at) (initialiser ts (r .1))
-          declare c (n .0) (d .0 .name) (n .1)) ]
+        n ← declaredRow c (d .0 .name) (r .0) (s .at) (initialiser ts (r .1))
+        declare c (n .0) (d .0 .name) (n .1))
+    ]
 
   -- each round reads one
   unfoldable pub initDeclarators : ℕ → Storage → ℕ → State → Answer State
@@ -107,25 +119,36 @@ module _ (ts : Tokens) (m : Model) where
     p ← specifiers ts m inner s
     b ← baseType m (p .0) (s .at) (p .1)
     elim (stands ts semicolon (b .1) || stands ts end (b .1)) [
-        true ↦ elim (isTypedef (p .0 .storage)) [
-            true ↦ refused missingName (s .at)
-          | false ↦ declare (p .0 .storage) (b .0) noName (b .1) ]
-      | false ↦ initDeclarators (suc (left ts (s .at))) (p .0 .storage) (b .0) (b .1) ]
+      | true ↦ elim (isTypedef (p .0 .storage)) [
+        | true ↦ refused missingName (s .at)
+        | false ↦ declare (p .0 .storage) (b .0) noName (b .1)
+      ]
+      | false ↦ initDeclarators (suc (left ts (s .at))) (p .0 .storage) (b .0) (b .1)
+    ]
 
   -- "A missing `;` between declarations is 10."
   unfoldable pub separated : State → Answer State
-  separated s = elim (stands ts semicolon s) [ true ↦ got (skip s) | false ↦
-    elim (stands ts end s) [ true ↦ got s | false ↦ refused missingMark (s .at) ] ]
+  separated s = elim (stands ts semicolon s) [
+    | true ↦ got (skip s)
+    | false ↦
+        elim (stands ts end s) [ true ↦ got s | false ↦ refused missingMark (s .at) ]
+  ]
 
   -- declarations to the end; each round reads a semicolon or a declaration
   unfoldable pub declarationsFrom : ℕ → State → Answer State
   declarationsFrom zero s = got s
   declarationsFrom (suc f) s =
-    elim (stands ts end s) [ true ↦ got s | false ↦
-    elim (stands ts semicolon s) [ true ↦ declarationsFrom f (skip s) | false ↦ (do
-      s₁ ← declaration s
-      s₂ ← separated s₁
-      declarationsFrom f s₂) ] ]
+      elim (stands ts end s) [
+        | true ↦ got s
+        | false ↦
+            elim (stands ts semicolon s) [
+              | true ↦ declarationsFrom f (skip s)
+              | false ↦ (do
+                s₁ ← declaration s
+                s₂ ← separated s₁
+                declarationsFrom f s₂)
+            ]
+      ]
 
   abbrev pub start : State
   start = record { at = 0; table = newTable }

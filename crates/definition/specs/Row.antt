@@ -23,16 +23,16 @@ nothing = record { first = 0; count = 0 }
 
 pub data Row : Type 0 where
   void : Row
-  int : ℕ → Bool → Row                       -- bytes, signed
-  float : ℕ → Row                            -- bytes
+  int : ℕ → Bool → Row  -- bytes, signed
+  float : ℕ → Row  -- bytes
   bool : Row
-  pointer : ℕ → Row                          -- target row
-  array : ℕ → Option ℕ → Row                 -- element row, bound
-  composite : Bool → ℕ → Option ℕ → Span → Row   -- a union; tag; size, where it has a body; members
-  enumeration : ℕ → ℕ → Span → Row           -- tag; bytes; values
-  function : Option ℕ → Bool → Span → Row    -- return row, none for void; `...`; parameters
-  typedef : ℕ → ℕ → Row                      -- name; row
-  qualified : ℕ → Qualifiers → Row           -- row
+  pointer : ℕ → Row  -- target row
+  array : ℕ → Option ℕ → Row  -- element row, bound
+  composite : Bool → ℕ → Option ℕ → Span → Row  -- a union; tag; size, where it has a body; members
+  enumeration : ℕ → ℕ → Span → Row  -- tag; bytes; values
+  function : Option ℕ → Bool → Span → Row  -- return row, none for void; `...`; parameters
+  typedef : ℕ → ℕ → Row  -- name; row
+  qualified : ℕ → Qualifiers → Row  -- row
 
 abbrev pub bit : Bool → ℕ
 bit true = 1

@@ -30,7 +30,7 @@ total (n ∷ ns) = n + total ns
 pub record Specifiers : Type 0 where
   pub storage : Storage
   pub qualifiers : Qualifiers
-  pub base : Option ℕ      -- the row of a struct, union, enum or type name
+  pub base : Option ℕ  -- the row of a struct, union, enum or type name
   pub words : Words
 
 abbrev pub noSpecifiers : Specifiers
@@ -59,9 +59,15 @@ isStorageWord k = leb typedefWord k && leb k registerWord
 
 unfoldable pub storageOf : ℕ → Storage
 storageOf k =
-  elim (eqb k typedefWord) [ true ↦ typedefStorage | false ↦
-  elim (eqb k externWord) [ true ↦ externStorage | false ↦
-  elim (eqb k staticWord) [ true ↦ staticStorage | false ↦ autoStorage ] ] ]
+    elim (eqb k typedefWord) [
+      | true ↦ typedefStorage
+      | false ↦
+          elim (eqb k externWord) [
+            | true ↦ externStorage
+            | false ↦
+                elim (eqb k staticWord) [ true ↦ staticStorage | false ↦ autoStorage ]
+          ]
+    ]
 
 unfoldable pub isQualifierWord : ℕ → Bool
 isQualifierWord k = leb constWord k && leb k restrictWord
@@ -90,13 +96,15 @@ signedness ws = eqb (howMany unsignedWord ws) 0
 
 unfoldable pub doubleType : Model → Words → Option Row
 doubleType m ws = elim (ltb 0 (howMany shortWord ws) || (ltb 0 (howMany intWord ws) || (ltb 0 (signs ws) || ltb 1 (howMany longWord ws)))) [
-    true ↦ none
-  | false ↦ elim (eqb (howMany longWord ws) 1) [ true ↦ some (float (m .longDouble)) | false ↦ some (float (m .double)) ] ]
+  | true ↦ none
+  | false ↦ elim (eqb (howMany longWord ws) 1) [ true ↦ some (float (m .longDouble)) | false ↦ some (float (m .double)) ]
+]
 
 unfoldable pub charType : Model → Words → Option Row
 charType m ws = elim (ltb 0 (howMany shortWord ws) || (ltb 0 (howMany longWord ws) || ltb 0 (howMany intWord ws))) [
-    true ↦ none
-  | false ↦ elim (eqb (signs ws) 0) [ true ↦ some (int 1 (m .charSigned)) | false ↦ some (int 1 (signedness ws)) ] ]
+  | true ↦ none
+  | false ↦ elim (eqb (signs ws) 0) [ true ↦ some (int 1 (m .charSigned)) | false ↦ some (int 1 (signedness ws)) ]
+]
 
 unfoldable pub shortType : Model → Words → Option Row
 shortType m ws = elim (ltb 0 (howMany longWord ws)) [ true ↦ none | false ↦ some (int (m .short) (signedness ws)) ]
@@ -104,21 +112,49 @@ shortType m ws = elim (ltb 0 (howMany longWord ws)) [ true ↦ none | false ↦ 
 -- `int`, `long` and `long long`, with or without a sign; no word at all is no type
 unfoldable pub intType : Model → Words → Option Row
 intType m ws = elim (eqb (howMany intWord ws + signs ws + howMany longWord ws) (total ws) && ltb 0 (total ws)) [
-    false ↦ none
-  | true ↦ elim (eqb (howMany longWord ws) 0) [ true ↦ some (int (m .int) (signedness ws)) | false ↦
-    elim (eqb (howMany longWord ws) 1) [ true ↦ some (int (m .long) (signedness ws)) | false ↦
-    elim (eqb (howMany longWord ws) 2) [ true ↦ some (int (m .longLong) (signedness ws)) | false ↦ none ] ] ] ]
+  | false ↦ none
+  | true ↦ elim (eqb (howMany longWord ws) 0) [
+    | true ↦ some (int (m .int) (signedness ws))
+    | false ↦
+        elim (eqb (howMany longWord ws) 1) [
+          | true ↦ some (int (m .long) (signedness ws))
+          | false ↦
+              elim (eqb (howMany longWord ws) 2) [ true ↦ some (int (m .longLong) (signedness ws)) | false ↦ none ]
+        ]
+  ]
+]
 
 unfoldable pub combine : Model → Words → Option Row
 combine m ws =
-  elim (ltb 1 (signs ws)) [ true ↦ none | false ↦
-  elim (ltb 0 (howMany complexWord ws)) [ true ↦ none | false ↦
-  elim (ltb 0 (howMany voidWord ws)) [ true ↦ onlyWord ws void | false ↦
-  elim (ltb 0 (howMany boolWord ws)) [ true ↦ onlyWord ws bool | false ↦
-  elim (ltb 0 (howMany floatWord ws)) [ true ↦ onlyWord ws (float (m .float)) | false ↦
-  elim (ltb 0 (howMany doubleWord ws)) [ true ↦ doubleType m ws | false ↦
-  elim (ltb 0 (howMany charWord ws)) [ true ↦ charType m ws | false ↦
-  elim (ltb 0 (howMany shortWord ws)) [ true ↦ shortType m ws | false ↦ intType m ws ] ] ] ] ] ] ] ]
+    elim (ltb 1 (signs ws)) [
+      | true ↦ none
+      | false ↦
+          elim (ltb 0 (howMany complexWord ws)) [
+            | true ↦ none
+            | false ↦
+                elim (ltb 0 (howMany voidWord ws)) [
+                  | true ↦ onlyWord ws void
+                  | false ↦
+                      elim (ltb 0 (howMany boolWord ws)) [
+                        | true ↦ onlyWord ws bool
+                        | false ↦
+                            elim (ltb 0 (howMany floatWord ws)) [
+                              | true ↦ onlyWord ws (float (m .float))
+                              | false ↦
+                                  elim (ltb 0 (howMany doubleWord ws)) [
+                                    | true ↦ doubleType m ws
+                                    | false ↦
+                                        elim (ltb 0 (howMany charWord ws)) [
+                                          | true ↦ charType m ws
+                                          | false ↦
+                                              elim (ltb 0 (howMany shortWord ws)) [ true ↦ shortType m ws | false ↦ intType m ws ]
+                                        ]
+                                  ]
+                            ]
+                      ]
+                ]
+          ]
+    ]
 
 -- ---- `builtin`: the type of a name that every C program assumes
 
@@ -129,9 +165,9 @@ typeIn k (x ∷ xs) = elim (eqb k (x .0)) [ true ↦ some (x .1) | false ↦ typ
 unfoldable pub builtin : Model → ℕ → Option Row
 builtin m k = typeIn k (
     (int8Name, int 1 true) ∷ (int16Name, int 2 true) ∷ (int32Name, int 4 true) ∷ (int64Name, int 8 true)
-  ∷ (uint8Name, int 1 false) ∷ (uint16Name, int 2 false) ∷ (uint32Name, int 4 false) ∷ (uint64Name, int 8 false)
-  ∷ (intmaxName, int 8 true) ∷ (uintmaxName, int 8 false)
-  ∷ (intptrName, int (m .pointer) true) ∷ (ssizeName, int (m .pointer) true) ∷ (ptrdiffName, int (m .pointer) true)
-  ∷ (uintptrName, int (m .pointer) false) ∷ (sizeName, int (m .pointer) false)
-  ∷ (wcharName, int 4 true) ∷ (char8Name, int 1 false) ∷ (char16Name, int 2 false) ∷ (char32Name, int 4 false)
-  ∷ (boolName, bool) ∷ [])
+    ∷ (uint8Name, int 1 false) ∷ (uint16Name, int 2 false) ∷ (uint32Name, int 4 false) ∷ (uint64Name, int 8 false)
+    ∷ (intmaxName, int 8 true) ∷ (uintmaxName, int 8 false)
+    ∷ (intptrName, int (m .pointer) true) ∷ (ssizeName, int (m .pointer) true) ∷ (ptrdiffName, int (m .pointer) true)
+    ∷ (uintptrName, int (m .pointer) false) ∷ (sizeName, int (m .pointer) false)
+    ∷ (wcharName, int 4 true) ∷ (char8Name, int 1 false) ∷ (char16Name, int 2 false) ∷ (char32Name, int 4 false)
+    ∷ (boolName, bool) ∷ [])

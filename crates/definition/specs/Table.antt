@@ -17,9 +17,9 @@ pub record Member : Type 0 where
   pub row : ℕ
   pub type : ℕ
   pub name : ℕ
-  pub width : Option ℕ    -- of a bit-field
-  pub offset : ℕ          -- in bytes; until the body is laid out, the member's offset in the text
-  pub firstBit : ℕ        -- of a bit-field
+  pub width : Option ℕ  -- of a bit-field
+  pub offset : ℕ  -- in bytes; until the body is laid out, the member's offset in the text
+  pub firstBit : ℕ  -- of a bit-field
 
 pub record Value : Type 0 where
   pub row : ℕ
@@ -60,7 +60,7 @@ pub record Table : Type 0 where
   pub values : List Value
   pub parameters : List Parameter
   pub declarations : List Declaration
-  pub log : List Event    -- the newest first
+  pub log : List Event  -- the newest first
 
 -- "row 0 is void and nothing else"
 abbrev pub newTable : Table
@@ -117,25 +117,30 @@ carrying rowOf n (suc c) (e ∷ es) = elim (eqb (rowOf e) n) [ true ↦ e ∷ ca
 -- Each push is refused where its limit would be passed, "at the next token not yet read".
 unfoldable pub pushRow : Row → Reads ℕ
 pushRow r s = elim (leb maxRows (length (s .table .rows))) [
-    true ↦ refused limitPassed (s .at)
-  | false ↦ got (length (s .table .rows), withTable s (withRows (s .table) (s .table .rows ++ r ∷ []))) ]
+  | true ↦ refused limitPassed (s .at)
+  | false ↦ got (length (s .table .rows), withTable s (withRows (s .table) (s .table .rows ++ r ∷ [])))
+]
 
 unfoldable pub pushMember : Member → Reads ℕ
 pushMember e s = elim (leb maxMembers (length (s .table .members))) [
-    true ↦ refused limitPassed (s .at)
-  | false ↦ got (length (s .table .members), withTable s (withMembers (s .table) (s .table .members ++ e ∷ []))) ]
+  | true ↦ refused limitPassed (s .at)
+  | false ↦ got (length (s .table .members), withTable s (withMembers (s .table) (s .table .members ++ e ∷ [])))
+]
 
 unfoldable pub pushValue : Value → Reads ℕ
 pushValue e s = elim (leb maxValues (length (s .table .values))) [
-    true ↦ refused limitPassed (s .at)
-  | false ↦ got (length (s .table .values), withTable s (withValues (s .table) (s .table .values ++ e ∷ []))) ]
+  | true ↦ refused limitPassed (s .at)
+  | false ↦ got (length (s .table .values), withTable s (withValues (s .table) (s .table .values ++ e ∷ [])))
+]
 
 unfoldable pub pushParameter : Parameter → Reads ℕ
 pushParameter e s = elim (leb maxParameters (length (s .table .parameters))) [
-    true ↦ refused limitPassed (s .at)
-  | false ↦ got (length (s .table .parameters), withTable s (withParameters (s .table) (s .table .parameters ++ e ∷ []))) ]
+  | true ↦ refused limitPassed (s .at)
+  | false ↦ got (length (s .table .parameters), withTable s (withParameters (s .table) (s .table .parameters ++ e ∷ [])))
+]
 
 unfoldable pub pushDeclaration : Declaration → Reads ℕ
 pushDeclaration d s = elim (leb maxDeclarations (length (s .table .declarations))) [
-    true ↦ refused limitPassed (s .at)
-  | false ↦ got (length (s .table .declarations), withTable s (withDeclarations (s .table) (s .table .declarations ++ d ∷ []))) ]
+  | true ↦ refused limitPassed (s .at)
+  | false ↦ got (length (s .table .declarations), withTable s (withDeclarations (s .table) (s .table .declarations ++ d ∷ [])))
+]

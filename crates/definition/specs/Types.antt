@@ -17,7 +17,7 @@ use Rattle.definition.specs.Table.{Member, Value, Parameter, Table, Stat
 unfoldable pub rowNamed : ℕ → ℕ → ℕ → List Row → Option ℕ
 rowNamed kind name n [] = none
 rowNamed kind name n (r ∷ rs) =
-  elim (eqb (kindOf r) kind && eqb (rowName r) name) [ true ↦ some n | false ↦ rowNamed kind name (suc n) rs ]
+    elim (eqb (kindOf r) kind && eqb (rowName r) name) [ true ↦ some n | false ↦ rowNamed kind name (suc n) rs ]
 
 abbrev pub typedefRow : Table → ℕ → Option ℕ
 typedefRow t name = rowNamed typedefKind name 0 (t .rows)
@@ -31,7 +31,7 @@ enumRow t name = rowNamed enumKind name 0 (t .rows)
 -- "Rows are equal as the Rust's types are, first bits not compared": the numbers of the rows, but for where their entries stand,
 unfoldable pub sameNumbers : Row → Row → Bool
 sameNumbers a b = eqb (kindOf a) (kindOf b) && (eqb (targetOf a) (targetOf b) && (eqb (flagsOf a) (flagsOf b)
-  && (eqb (rowName a) (rowName b) && (eqb (spanOf a .count) (spanOf b .count) && eqb (extentOf a) (extentOf b)))))
+    && (eqb (rowName a) (rowName b) && (eqb (spanOf a .count) (spanOf b .count) && eqb (extentOf a) (extentOf b)))))
 
 -- a width as a number: 0 for a plain member, else 1 more than the width
 abbrev pub widthNumber : Option ℕ → ℕ
@@ -66,11 +66,13 @@ parametersOf t n e = carrying (λ x. x .row) n (e .count) (drop (e .first) (t .p
 -- the entries of a new row r, which carry its list's mark, and of row n, which is x
 unfoldable pub sameEntries : Table → Row → ℕ → Row → Bool
 sameEntries t r n x =
-  elim (eqb (kindOf r) functionKind) [
-    true ↦ pairwise sameParameter (parametersOf t (markOf (spanOf r .first)) (spanOf r)) (parametersOf t n (spanOf x))
-  | false ↦ elim (eqb (kindOf r) enumKind) [
-      true ↦ pairwise sameValue (valuesOf t (markOf (spanOf r .first)) (spanOf r)) (valuesOf t n (spanOf x))
-    | false ↦ pairwise sameMember (membersOf t (markOf (spanOf r .first)) (spanOf r)) (membersOf t n (spanOf x)) ] ]
+    elim (eqb (kindOf r) functionKind) [
+      | true ↦ pairwise sameParameter (parametersOf t (markOf (spanOf r .first)) (spanOf r)) (parametersOf t n (spanOf x))
+      | false ↦ elim (eqb (kindOf r) enumKind) [
+        | true ↦ pairwise sameValue (valuesOf t (markOf (spanOf r .first)) (spanOf r)) (valuesOf t n (spanOf x))
+        | false ↦ pairwise sameMember (membersOf t (markOf (spanOf r .first)) (spanOf r)) (membersOf t n (spanOf x))
+      ]
+    ]
 
 unfoldable pub sameRow : Table → Row → ℕ → Row → Bool
 sameRow t r n x = elim (sameNumbers r x) [ true ↦ sameEntries t r n x | false ↦ false ]
@@ -115,10 +117,14 @@ qualifiersOf (typedef w r) = unqualified
 qualifiersOf (qualified r q) = q
 
 unfoldable pub qualify : Qualifiers → ℕ → Reads ℕ
-qualify q n s = elim (isUnqualified q) [ true ↦ got (n, s) | false ↦
-  elim (eqb (kindOf (rowAt (s .table) n)) qualifiedKind) [
-      true ↦ add (qualified (targetOf (rowAt (s .table) n)) (merged (qualifiersOf (rowAt (s .table) n)) q)) s
-    | false ↦ add (qualified n q) s ] ]
+qualify q n s = elim (isUnqualified q) [
+  | true ↦ got (n, s)
+  | false ↦
+      elim (eqb (kindOf (rowAt (s .table) n)) qualifiedKind) [
+        | true ↦ add (qualified (targetOf (rowAt (s .table) n)) (merged (qualifiersOf (rowAt (s .table) n)) q)) s
+        | false ↦ add (qualified n q) s
+      ]
+]
 
 -- a name for a type, or a type with qualifiers: what is looked through
 unfoldable pub isAlias : Row → Bool

@@ -87,9 +87,9 @@ nest n = bytes "struct{" ++ times n (bytes "struct{") ++ bytes "int a;" ++ times
 
 -- what is asked of a text, and what is answered
 data Question : Type 0 where
-  list : ℕ → Bytes → Question             -- its listing, under a model's number
-  alone : ℕ → Bytes → Question            -- its listing, as a single declaration
-  align : Bytes → Question                -- the alignment of its last member's type
+  list : ℕ → Bytes → Question  -- its listing, under a model's number
+  alone : ℕ → Bytes → Question  -- its listing, as a single declaration
+  align : Bytes → Question  -- the alignment of its last member's type
 
 data Reply : Type 0 where
   says : Bytes → Reply
@@ -107,58 +107,58 @@ Examples = List (Question × Reply)
 marked : Examples
 marked =
     (list lp64Number (bytes "struct{};"), says (lines ("type 0 void - -" ∷ "type 1 struct 0 1 -" ∷ "decl none 1 -" ∷ [])))  -- P1
-  ∷ (list lp64Number (bytes "struct{char a;int b:3;int c:30;};"), says (lines ("type 0 void - -" ∷ "type 1 int 1 1 signed" ∷ "type 2 int 4 4 signed" ∷ "type 3 struct 8 4 -" ∷ "member 0 - - 1 a" ∷ "member 0 8 3 2 b" ∷ "member 4 32 30 2 c" ∷ "decl none 3 -" ∷ [])))  -- P2
-  ∷ (list ilp32Number (bytes "struct{int a;long long b:40;};"), says (lines ("type 0 void - -" ∷ "type 1 int 4 4 signed" ∷ "type 2 int 8 4 signed" ∷ "type 3 struct 12 4 -" ∷ "member 0 - - 1 a" ∷ "member 0 32 40 2 b" ∷ "decl none 3 -" ∷ [])))  -- P3
-  ∷ (list lp64Number (bytes "struct{char a;int:0;char b;};"), says (lines ("type 0 void - -" ∷ "type 1 int 1 1 signed" ∷ "type 2 int 4 4 signed" ∷ "type 3 struct 8 1 -" ∷ "member 0 - - 1 a" ∷ "member 4 - - 1 b" ∷ "decl none 3 -" ∷ [])))  -- P4
-  ∷ (list lp64Number (bytes "enum{OPEN,SHUT=24*60,NEXT};"), says (lines ("type 0 void - -" ∷ "type 1 enum 4 4 -" ∷ "value 0 OPEN" ∷ "value 1440 SHUT" ∷ "value 1441 NEXT" ∷ "decl none 1 -" ∷ [])))  -- P5
-  ∷ (list lp64Number (bytes "enum{A=-7/2,B=-7%2,C=-7>>1};"), says (lines ("type 0 void - -" ∷ "type 1 enum 4 4 -" ∷ "value -3 A" ∷ "value -1 B" ∷ "value -4 C" ∷ "decl none 1 -" ∷ [])))  -- P6
-  ∷ (list lp64Number (bytes "enum{D=1<<4294967296};"), says (lines ("type 0 void - -" ∷ "type 1 enum 4 4 -" ∷ "value 1 D" ∷ "decl none 1 -" ∷ [])))  -- P7
-  ∷ (list lp64Number (bytes "enum {A=1?2:1/0}"), says (lines ("refused 22 13 1 14" ∷ [])))  -- P8
-  ∷ (list lp64Number (parens 30), says (lines ("type 0 void - -" ∷ "type 1 int 4 4 signed" ∷ "decl none 1 x" ∷ [])))  -- P9
-  ∷ (list lp64Number (parens 31), says (lines ("refused 9 35 1 36" ∷ [])))  -- P9
-  ∷ (align (nest 32), aligned (some 4))  -- P10
-  ∷ (align (nest 33), aligned (some 1))  -- P10
-  ∷ []
+    ∷ (list lp64Number (bytes "struct{char a;int b:3;int c:30;};"), says (lines ("type 0 void - -" ∷ "type 1 int 1 1 signed" ∷ "type 2 int 4 4 signed" ∷ "type 3 struct 8 4 -" ∷ "member 0 - - 1 a" ∷ "member 0 8 3 2 b" ∷ "member 4 32 30 2 c" ∷ "decl none 3 -" ∷ [])))  -- P2
+    ∷ (list ilp32Number (bytes "struct{int a;long long b:40;};"), says (lines ("type 0 void - -" ∷ "type 1 int 4 4 signed" ∷ "type 2 int 8 4 signed" ∷ "type 3 struct 12 4 -" ∷ "member 0 - - 1 a" ∷ "member 0 32 40 2 b" ∷ "decl none 3 -" ∷ [])))  -- P3
+    ∷ (list lp64Number (bytes "struct{char a;int:0;char b;};"), says (lines ("type 0 void - -" ∷ "type 1 int 1 1 signed" ∷ "type 2 int 4 4 signed" ∷ "type 3 struct 8 1 -" ∷ "member 0 - - 1 a" ∷ "member 4 - - 1 b" ∷ "decl none 3 -" ∷ [])))  -- P4
+    ∷ (list lp64Number (bytes "enum{OPEN,SHUT=24*60,NEXT};"), says (lines ("type 0 void - -" ∷ "type 1 enum 4 4 -" ∷ "value 0 OPEN" ∷ "value 1440 SHUT" ∷ "value 1441 NEXT" ∷ "decl none 1 -" ∷ [])))  -- P5
+    ∷ (list lp64Number (bytes "enum{A=-7/2,B=-7%2,C=-7>>1};"), says (lines ("type 0 void - -" ∷ "type 1 enum 4 4 -" ∷ "value -3 A" ∷ "value -1 B" ∷ "value -4 C" ∷ "decl none 1 -" ∷ [])))  -- P6
+    ∷ (list lp64Number (bytes "enum{D=1<<4294967296};"), says (lines ("type 0 void - -" ∷ "type 1 enum 4 4 -" ∷ "value 1 D" ∷ "decl none 1 -" ∷ [])))  -- P7
+    ∷ (list lp64Number (bytes "enum {A=1?2:1/0}"), says (lines ("refused 22 13 1 14" ∷ [])))  -- P8
+    ∷ (list lp64Number (parens 30), says (lines ("type 0 void - -" ∷ "type 1 int 4 4 signed" ∷ "decl none 1 x" ∷ [])))  -- P9
+    ∷ (list lp64Number (parens 31), says (lines ("refused 9 35 1 36" ∷ [])))  -- P9
+    ∷ (align (nest 32), aligned (some 4))  -- P10
+    ∷ (align (nest 33), aligned (some 1))  -- P10
+    ∷ []
 
 -- an example of each refusal
 refusals : Examples
 refusals =
     (list 3 [], says (lines ("refused 1 0 1 1" ∷ [])))  -- 1
-  ∷ (list lp64Number (replicate 32769 32), says (lines ("refused 2 0 1 1" ∷ [])))  -- 2
-  ∷ (list lp64Number (bytes "int a;" ++ 200 ∷ []), says (lines ("refused 3 6 1 7" ∷ [])))  -- 3
-  ∷ (list lp64Number (bytes "#define N 6"), says (lines ("refused 4 0 1 1" ∷ [])))  -- 4
-  ∷ (list lp64Number (bytes "/*"), says (lines ("refused 5 2 1 3" ∷ [])))  -- 5
-  ∷ (list lp64Number (bytes "int a[08];"), says (lines ("refused 6 6 1 7" ∷ [])))  -- 6
-  ∷ (list lp64Number (bytes "int @;"), says (lines ("refused 7 4 1 5" ∷ [])))  -- 7
-  ∷ (list lp64Number (bytes "enum{A=1<<63};"), says (lines ("refused 8 8 1 9" ∷ [])))  -- 8
-  ∷ (list lp64Number (bytes "int " ++ times 31 (bytes "(") ++ bytes "x"), says (lines ("refused 9 35 1 36" ∷ [])))  -- 9
-  ∷ (list lp64Number (bytes "int a[2;"), says (lines ("refused 10 7 1 8" ∷ [])))  -- 10
-  ∷ (list lp64Number (bytes "int struct S a;"), says (lines ("refused 11 4 1 5" ∷ [])))  -- 11
-  ∷ (list lp64Number (bytes "foo a;"), says (lines ("refused 12 0 1 1" ∷ [])))  -- 12
-  ∷ (list lp64Number (bytes "__attribute__((packed)) int a;"), says (lines ("refused 13 0 1 1" ∷ [])))  -- 13
-  ∷ (list lp64Number (bytes "typedef int;"), says (lines ("refused 14 0 1 1" ∷ [])))  -- 14
-  ∷ (list lp64Number (bytes "typedef int T; typedef char T;"), says (lines ("refused 15 28 1 29" ∷ [])))  -- 15
-  ∷ (list lp64Number (bytes "void a[2];"), says (lines ("refused 16 9 1 10" ∷ [])))  -- 16
-  ∷ (list lp64Number (bytes "struct{static int a;};"), says (lines ("refused 17 7 1 8" ∷ [])))  -- 17
-  ∷ (list lp64Number (bytes "int a[-1];"), says (lines ("refused 18 6 1 7" ∷ [])))  -- 18
-  ∷ (list lp64Number (bytes "struct{int a:65;};"), says (lines ("refused 19 11 1 12" ∷ [])))  -- 19
-  ∷ (list lp64Number (bytes "struct{struct S s;};"), says (lines ("refused 20 16 1 17" ∷ [])))  -- 20
-  ∷ (list lp64Number (bytes "struct{char a[4294967296];};"), says (lines ("refused 21 6 1 7" ∷ [])))  -- 21
-  ∷ (list lp64Number (bytes "int a[1/0];"), says (lines ("refused 22 7 1 8" ∷ [])))  -- 22
-  ∷ (list lp64Number (bytes "int a[N];"), says (lines ("refused 23 6 1 7" ∷ [])))  -- 23
-  ∷ (alone lp64Number (bytes "int a,b;"), says (lines ("refused 24 0 1 1" ∷ [])))  -- 24
-  ∷ (list lp64Number (bytes "enum E:int{A};"), says (lines ("refused 25 5 1 6" ∷ [])))  -- 25
-  ∷ (list lp64Number (bytes "struct{char a[4611686018427387904];};"), says (lines ("refused 26 12 1 13" ∷ [])))  -- 26
-  ∷ []
+    ∷ (list lp64Number (replicate 32769 32), says (lines ("refused 2 0 1 1" ∷ [])))  -- 2
+    ∷ (list lp64Number (bytes "int a;" ++ 200 ∷ []), says (lines ("refused 3 6 1 7" ∷ [])))  -- 3
+    ∷ (list lp64Number (bytes "#define N 6"), says (lines ("refused 4 0 1 1" ∷ [])))  -- 4
+    ∷ (list lp64Number (bytes "/*"), says (lines ("refused 5 2 1 3" ∷ [])))  -- 5
+    ∷ (list lp64Number (bytes "int a[08];"), says (lines ("refused 6 6 1 7" ∷ [])))  -- 6
+    ∷ (list lp64Number (bytes "int @;"), says (lines ("refused 7 4 1 5" ∷ [])))  -- 7
+    ∷ (list lp64Number (bytes "enum{A=1<<63};"), says (lines ("refused 8 8 1 9" ∷ [])))  -- 8
+    ∷ (list lp64Number (bytes "int " ++ times 31 (bytes "(") ++ bytes "x"), says (lines ("refused 9 35 1 36" ∷ [])))  -- 9
+    ∷ (list lp64Number (bytes "int a[2;"), says (lines ("refused 10 7 1 8" ∷ [])))  -- 10
+    ∷ (list lp64Number (bytes "int struct S a;"), says (lines ("refused 11 4 1 5" ∷ [])))  -- 11
+    ∷ (list lp64Number (bytes "foo a;"), says (lines ("refused 12 0 1 1" ∷ [])))  -- 12
+    ∷ (list lp64Number (bytes "__attribute__((packed)) int a;"), says (lines ("refused 13 0 1 1" ∷ [])))  -- 13
+    ∷ (list lp64Number (bytes "typedef int;"), says (lines ("refused 14 0 1 1" ∷ [])))  -- 14
+    ∷ (list lp64Number (bytes "typedef int T; typedef char T;"), says (lines ("refused 15 28 1 29" ∷ [])))  -- 15
+    ∷ (list lp64Number (bytes "void a[2];"), says (lines ("refused 16 9 1 10" ∷ [])))  -- 16
+    ∷ (list lp64Number (bytes "struct{static int a;};"), says (lines ("refused 17 7 1 8" ∷ [])))  -- 17
+    ∷ (list lp64Number (bytes "int a[-1];"), says (lines ("refused 18 6 1 7" ∷ [])))  -- 18
+    ∷ (list lp64Number (bytes "struct{int a:65;};"), says (lines ("refused 19 11 1 12" ∷ [])))  -- 19
+    ∷ (list lp64Number (bytes "struct{struct S s;};"), says (lines ("refused 20 16 1 17" ∷ [])))  -- 20
+    ∷ (list lp64Number (bytes "struct{char a[4294967296];};"), says (lines ("refused 21 6 1 7" ∷ [])))  -- 21
+    ∷ (list lp64Number (bytes "int a[1/0];"), says (lines ("refused 22 7 1 8" ∷ [])))  -- 22
+    ∷ (list lp64Number (bytes "int a[N];"), says (lines ("refused 23 6 1 7" ∷ [])))  -- 23
+    ∷ (alone lp64Number (bytes "int a,b;"), says (lines ("refused 24 0 1 1" ∷ [])))  -- 24
+    ∷ (list lp64Number (bytes "enum E:int{A};"), says (lines ("refused 25 5 1 6" ∷ [])))  -- 25
+    ∷ (list lp64Number (bytes "struct{char a[4611686018427387904];};"), says (lines ("refused 26 12 1 13" ∷ [])))  -- 26
+    ∷ []
 
 -- the listing, and "wrong ways that look fair"
 others : Examples
 others =
     (list lp64Number (bytes "struct T{char d;short m[6];};"), says (lines ("type 0 void - -" ∷ "type 1 struct 14 2 T" ∷ "member 0 - - 2 d" ∷ "member 2 - - 4 m" ∷ "type 2 int 1 1 signed" ∷ "type 3 int 2 2 signed" ∷ "type 4 array 12 2 3 6" ∷ "decl none 1 -" ∷ [])))  -- the listing's own example
-  ∷ (list lp64Number (bytes "struct S{char c;};struct S{int i;};struct{struct S s;};"), says (lines ("type 0 void - -" ∷ "type 1 struct 4 4 S" ∷ "member 0 - - 3 i" ∷ "type 2 int 1 1 signed" ∷ "type 3 int 4 4 signed" ∷ "type 4 struct 4 4 -" ∷ "member 0 - - 1 s" ∷ "decl none 1 -" ∷ "decl none 1 -" ∷ "decl none 4 -" ∷ [])))  -- a new body's alignment counts
-  ∷ (list lp64Number (bytes "enum{A=--1};"), says (lines ("type 0 void - -" ∷ "type 1 enum 4 4 -" ∷ "value 1 A" ∷ "decl none 1 -" ∷ [])))  -- each arm is evaluated, and `--1` is two minuses
-  ∷ (list lp64Number (bytes "struct{int a;}x;struct{int a;}y;"), says (lines ("type 0 void - -" ∷ "type 1 int 4 4 signed" ∷ "type 2 struct 4 4 -" ∷ "member 0 - - 1 a" ∷ "decl none 2 x" ∷ "decl none 2 y" ∷ [])))  -- two anonymous structs with equal fields are one row
-  ∷ []
+    ∷ (list lp64Number (bytes "struct S{char c;};struct S{int i;};struct{struct S s;};"), says (lines ("type 0 void - -" ∷ "type 1 struct 4 4 S" ∷ "member 0 - - 3 i" ∷ "type 2 int 1 1 signed" ∷ "type 3 int 4 4 signed" ∷ "type 4 struct 4 4 -" ∷ "member 0 - - 1 s" ∷ "decl none 1 -" ∷ "decl none 1 -" ∷ "decl none 4 -" ∷ [])))  -- a new body's alignment counts
+    ∷ (list lp64Number (bytes "enum{A=--1};"), says (lines ("type 0 void - -" ∷ "type 1 enum 4 4 -" ∷ "value 1 A" ∷ "decl none 1 -" ∷ [])))  -- each arm is evaluated, and `--1` is two minuses
+    ∷ (list lp64Number (bytes "struct{int a;}x;struct{int a;}y;"), says (lines ("type 0 void - -" ∷ "type 1 int 4 4 signed" ∷ "type 2 struct 4 4 -" ∷ "member 0 - - 1 a" ∷ "decl none 2 x" ∷ "decl none 2 y" ∷ [])))  -- two anonymous structs with equal fields are one row
+    ∷ []
 
 abbrev answered : Examples → Type 0
 answered t = map (λ e. reply (e .0)) t ≡ map (λ e. e .1) t

@@ -150,7 +150,7 @@ module _ {m : Model} {t : Table} {union : Bool} {mark : ℕ} {c : Cursor} {w d :
         long = longer _;
         holds = rw (append-assoc (g .pre) (getD (t .members) i noMember ∷ []) (drop (i + 1) (t .members)), ← here (t .members) i p) (g .holds);
         same = g .same ∙ (ap (λ x. placedAll m t union mark x l >>= behind (g .pre)) (here (t .members) i p)
-          ∙ (ap (λ x. x >>= behind (g .pre)) (nay (eqb (getD (t .members) i noMember .row) mark) _ _ (ne-eqb _ mark (λ z. q (h ∙ z)))) ∙ joined _ (g .pre) _));
+            ∙ (ap (λ x. x >>= behind (g .pre)) (nay (eqb (getD (t .members) i noMember .row) mark) _ _ (ne-eqb _ mark (λ z. q (h ∙ z)))) ∙ joined _ (g .pre) _));
       }
 
       module _ (q : k ≡ mark) {last : Bool} (z : last ≡ isLast m t union mark (drop (i + 1) (t .members))) where
@@ -237,8 +237,9 @@ module _ (x : Row) {k : ℕ} (h : k ≡ kindOf x) where
 -- a member of a size and a type
 abbrev sizedMember : Model → Table → Bool → Member → Laid → ℕ → ℕ → Answer (Member × Laid)
 sizedMember m t union e l ty s = elim union [
-    true ↦ got (inUnion e s (max (orOne (alignOf m t ty)) 1) l)
-  | false ↦ inStruct (e .width) e s (max (orOne (alignOf m t ty)) 1) l ]
+  | true ↦ got (inUnion e s (max (orOne (alignOf m t ty)) 1) l)
+  | false ↦ inStruct (e .width) e s (max (orOne (alignOf m t ty)) 1) l
+]
 
 module _ (m : Model) (t : Table) (union last : Bool) (e : Member) (l : Laid) {ty : ℕ} (y : ty ≡ e .type) {b : Answer ℕ}
     (q : b ≡ memberSize (sizeOf m t ty) (last && isUnsized (rowAt t (resolve t ty))) (e .offset)) where

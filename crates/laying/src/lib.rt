@@ -11,13 +11,27 @@ ghost use Rattle.table.specs.Held.{Room};
 ghost use Rattle.rows.specs.Finds.{Says};
 ghost use Rattle.words.specs.Meaning.{model};
 ghost use Rattle.laying.specs.Lays.{placing, sized, LastIs, BytesAre, PlaceIs, placedFrom, LaysOut};
-use placing::{empty, in_struct, in_union, record_size, Laid, Placed, Sized};
+use placing::Laid;
+use placing::Placed;
+use placing::Sized;
+use placing::empty;
+use placing::in_struct;
+use placing::in_union;
+use placing::record_size;
 use rows::resolve;
-use sizes::{align_of, or_one, size_of, Size};
-use table::{
-    member_offset, member_row, member_type, member_width, row_flags, row_kind, set_member_place, Cursor,
-    MAX_ROWS,
-};
+use sizes::Size;
+use sizes::align_of;
+use sizes::or_one;
+use sizes::size_of;
+use table::Cursor;
+use table::MAX_ROWS;
+use table::member_offset;
+use table::member_row;
+use table::member_type;
+use table::member_width;
+use table::row_flags;
+use table::row_kind;
+use table::set_member_place;
 use words::model::Model;
 use words::row_kinds::ARRAY_KIND;
 
@@ -130,14 +144,7 @@ fn place_member(
 }
 
 // The members from number `first` on that carry its mark, each stored where it stands.
-fn place_all(
-    m: Model,
-    w: &[u32],
-    d: &mut [u64],
-    c: Cursor,
-    union: bool,
-    first: u32,
-) -> Placing
+fn place_all(m: Model, w: &[u32], d: &mut [u64], c: Cursor, union: bool, first: u32) -> Placing
     requires { ⌜ (length (now d) ≡ widesLength) × Room c ⌝ }
     ensures { λ r. ⌜ LaysOut (λ t. placedFrom (model m) t union first) c (now (w .entry)) (now (d .entry)) (placing c r) (now (d .exit)) ⌝ }
 {

@@ -103,5 +103,7 @@ module _ {f : ℕ → Option ℕ} {n : ℕ} {es : List Member} {i left : ℕ} {a
     takes {b = b} {c} h q z e v u =
         let rest : Option ℕ = largest f (carrying rowOf n (left - 1) (drop (i + 1) es)) in
         let x : Option ℕ = f (getD es i noMember .type) in
-        record { same = g .same ∙ (ap (λ l. larger a (largest f l)) (ap (λ l. carrying rowOf n left l) here ∙ counted n left _ _ (eq-eqb _ n (sym h ∙ q)) z)
-          ∙ (sym (larger-grouped a x rest) ∙ ap (λ o. larger o rest) (ap (λ o. larger a o) (sym (v ∙ ap f e)) ∙ sym u))) }
+        record {
+          same = g .same ∙ (ap (λ l. larger a (largest f l)) (ap (λ l. carrying rowOf n left l) here ∙ counted n left _ _ (eq-eqb _ n (sym h ∙ q)) z)
+              ∙ (sym (larger-grouped a x rest) ∙ ap (λ o. larger o rest) (ap (λ o. larger a o) (sym (v ∙ ap f e)) ∙ sym u)));
+        }

@@ -32,9 +32,10 @@ extent-of n p x = p .of (x .table) (x .holds) ∙ ap (λ rs. extentOf (getD rs n
 -- an array goes by its element, an alias by what it stands for, any other row by itself
 unfoldable byNumbers : Model → (ℕ → Option ℕ) → ℕ → ℕ → ℕ → ℕ → Option ℕ
 byNumbers m f kind target flags extent =
-  elim (among kind arrayKind typedefKind qualifiedKind) [
-      true ↦ elim (eqb kind arrayKind) [ true ↦ elim (eqb flags 0) [ true ↦ none | false ↦ times (f target) extent ] | false ↦ f target ]
-    | false ↦ ownSize m kind flags extent ]
+    elim (among kind arrayKind typedefKind qualifiedKind) [
+      | true ↦ elim (eqb kind arrayKind) [ true ↦ elim (eqb flags 0) [ true ↦ none | false ↦ times (f target) extent ] | false ↦ f target ]
+      | false ↦ ownSize m kind flags extent
+    ]
 
 by-numbers : (m : Model) (f : ℕ → Option ℕ) (x : Row) → sizeBy m f x ≡ byNumbers m f (kindOf x) (targetOf x) (flagsOf x) (extentOf x)
 unfolding sizeBy byNumbers ownSize among kindOf targetOf flagsOf extentOf
@@ -105,8 +106,11 @@ module _ (m : Model) (t : Table) (n : ℕ) {kind : ℕ} (k : kind ≡ kindOf (ro
 -- the same of alignments
 unfoldable alignNumbers : Model → (ℕ → Option ℕ) → ℕ → ℕ → ℕ → Option ℕ → Option ℕ
 alignNumbers m f kind target extent best =
-  elim (among kind structKind unionKind unionKind) [ true ↦ some (orOne best) | false ↦
-  elim (among kind arrayKind typedefKind qualifiedKind) [ true ↦ f target | false ↦ ownAlign m kind extent ] ]
+    elim (among kind structKind unionKind unionKind) [
+      | true ↦ some (orOne best)
+      | false ↦
+          elim (among kind arrayKind typedefKind qualifiedKind) [ true ↦ f target | false ↦ ownAlign m kind extent ]
+    ]
 
 align-numbers : (m : Model) (t : Table) (f : ℕ → Option ℕ) (n : ℕ) (x : Row) → alignBy m t f n x ≡ alignNumbers m f (kindOf x) (targetOf x) (extentOf x) (largest f (membersOf t n (spanOf x)))
 unfolding alignBy alignNumbers ownAlign among kindOf targetOf extentOf spanOf

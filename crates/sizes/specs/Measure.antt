@@ -33,10 +33,19 @@ among kind a b c = eqb kind a || (eqb kind b || eqb kind c)
 -- the size of a row that goes by no other row, from its numbers
 unfoldable pub ownSize : Model·meant → ℕ → ℕ → ℕ → Option ℕ
 ownSize m kind flags extent =
-  elim (among kind intKind floatKind enumKind) [ true ↦ some extent | false ↦
-  elim (eqb kind boolKind) [ true ↦ some 1 | false ↦
-  elim (eqb kind pointerKind) [ true ↦ some (m .pointer) | false ↦
-  elim (among kind structKind unionKind unionKind) [ true ↦ elim (eqb flags 0) [ true ↦ none | false ↦ some extent ] | false ↦ none ] ] ] ]
+    elim (among kind intKind floatKind enumKind) [
+      | true ↦ some extent
+      | false ↦
+          elim (eqb kind boolKind) [
+            | true ↦ some 1
+            | false ↦
+                elim (eqb kind pointerKind) [
+                  | true ↦ some (m .pointer)
+                  | false ↦
+                      elim (among kind structKind unionKind unionKind) [ true ↦ elim (eqb flags 0) [ true ↦ none | false ↦ some extent ] | false ↦ none ]
+                ]
+          ]
+    ]
 
 pub record OwnIs (m : Model) (kind flags extent : ℕ) (r : Size) : Type 0 where
   pub is : r ≡ told (ownSize (model m) kind flags extent)
@@ -61,9 +70,15 @@ align Absent = none
 -- the alignment of a row that goes by no other and has no members, from its numbers
 unfoldable pub ownAlign : Model·meant → ℕ → ℕ → Option ℕ
 ownAlign m kind extent =
-  elim (among kind intKind floatKind enumKind) [ true ↦ some (capped m extent) | false ↦
-  elim (eqb kind boolKind) [ true ↦ some 1 | false ↦
-  elim (eqb kind pointerKind) [ true ↦ some (capped m (m .pointer)) | false ↦ none ] ] ]
+    elim (among kind intKind floatKind enumKind) [
+      | true ↦ some (capped m extent)
+      | false ↦
+          elim (eqb kind boolKind) [
+            | true ↦ some 1
+            | false ↦
+                elim (eqb kind pointerKind) [ true ↦ some (capped m (m .pointer)) | false ↦ none ]
+          ]
+    ]
 
 -- The alignment of row n as far as some levels deep, of whatever table the slices hold and with as many members as the code was told.
 pub record AlignIs (levels : ℕ) (m : Model) (members n : ℕ) (w d : List ℕ) (r : Align) : Type 0 where
@@ -72,4 +87,4 @@ pub record AlignIs (levels : ℕ) (m : Model) (members n : ℕ) (w d : List ℕ)
 -- The largest of its members.
 pub record StrictestIs (levels : ℕ) (m : Model) (members n : ℕ) (w d : List ℕ) (r : Align) : Type 0 where
   pub of : (t : Table) → InWords t w → Extents t d → members ≡ length (t .members)
-    → align r ≡ largest (λ k. alignWithin levels (model m) t k) (membersOf t n (spanOf (rowAt t n)))
+      → align r ≡ largest (λ k. alignWithin levels (model m) t k) (membersOf t n (spanOf (rowAt t n)))

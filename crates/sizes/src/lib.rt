@@ -5,12 +5,25 @@ ghost use Rattle.definition.specs.Limit.{alignLevels};
 ghost use Rattle.definition.specs.Align.{larger, orOne, capped};
 ghost use Rattle.words.specs.Meaning.{model};
 ghost use Rattle.sizes.specs.Measure.{among, align, ownAlign, SizeIs, OwnIs, TimesIs, AlignIs, StrictestIs};
-use table::{row_kind, row_target, row_flags, row_first, row_count, row_extent, member_row, member_type};
+use table::member_row;
+use table::member_type;
+use table::row_count;
+use table::row_extent;
+use table::row_first;
+use table::row_flags;
+use table::row_kind;
+use table::row_target;
 use words::model::Model;
-use words::row_kinds::{
-    ARRAY_KIND, BOOL_KIND, ENUM_KIND, FLOAT_KIND, INT_KIND, POINTER_KIND, QUALIFIED_KIND,
-    STRUCT_KIND, TYPEDEF_KIND, UNION_KIND,
-};
+use words::row_kinds::ARRAY_KIND;
+use words::row_kinds::BOOL_KIND;
+use words::row_kinds::ENUM_KIND;
+use words::row_kinds::FLOAT_KIND;
+use words::row_kinds::INT_KIND;
+use words::row_kinds::POINTER_KIND;
+use words::row_kinds::QUALIFIED_KIND;
+use words::row_kinds::STRUCT_KIND;
+use words::row_kinds::TYPEDEF_KIND;
+use words::row_kinds::UNION_KIND;
 
 // A size in bytes; one above 2^64 - 1 is `Big`.
 pub enum Size {
@@ -173,14 +186,7 @@ fn own_align(m: Model, kind: u32, extent: u64) -> Align
 }
 
 // The alignment of a row as far as `levels` rows deep.
-fn align_within(
-    m: Model,
-    w: &[u32],
-    d: &[u64],
-    members: usize,
-    n: u32,
-    levels: u32,
-) -> Align
+fn align_within(m: Model, w: &[u32], d: &[u64], members: usize, n: u32, levels: u32) -> Align
     ensures { λ r. ⌜ AlignIs levels m members n (now (w .entry)) (now (d .entry)) r ⌝ }
 {
     if levels == 0 {
@@ -200,14 +206,7 @@ fn align_within(
 }
 
 // The largest alignment of a row's members: from its first entry on, as many as it has that carry it.
-fn strictest(
-    m: Model,
-    w: &[u32],
-    d: &[u64],
-    members: usize,
-    n: u32,
-    levels: u32,
-) -> Align
+fn strictest(m: Model, w: &[u32], d: &[u64], members: usize, n: u32, levels: u32) -> Align
     ensures { λ r. ⌜ StrictestIs levels m members n (now (w .entry)) (now (d .entry)) r ⌝ }
 {
     let mut i = row_first(w, n) as usize;

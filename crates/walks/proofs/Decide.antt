@@ -34,7 +34,6 @@ past-end (x ∷ l) zero h = absurd (omega arith)
 past-end (x ∷ l) (suc i) h = past-end l i (omega arith)
 
 module _ (ts : Tokens) where
-
   -- what stands at an index is a token
   below : (test : ℕ → Bool) → test end ≡ false → (i : ℕ) → T (test (kindAt ts i)) → i < howMany ts
   below test e i h = go (decLt i (howMany ts))
@@ -81,13 +80,17 @@ module _ (ts : Tokens) where
 
   pub decided : T (isOrderly ts) → Orderly ts
   unfolding isOrderly
-  decided h = record { oneBody = λ i j a b e. one i j a b e (decLt j i) (decLt i j); bodyFirst = λ i j a b e.
-      both-or (usesEnum ts i) (opensBody ts j) (sameTag ts i j) (closedBefore ts j i) a b (tags-same i j e)
-        (every-at (howMany ts) (λ k. second i k) (every-at (howMany ts) (λ k. everyBelow (howMany ts) (λ l. second k l)) (T-right A B h) i (use-below i a)) j (body-below j b)) }
+  decided h = record {
+    oneBody = λ i j a b e. one i j a b e (decLt j i) (decLt i j);
+    bodyFirst = λ i j a b e.
+        both-or (usesEnum ts i) (opensBody ts j) (sameTag ts i j) (closedBefore ts j i) a b (tags-same i j e)
+        (every-at (howMany ts) (λ k. second i k) (every-at (howMany ts) (λ k. everyBelow (howMany ts) (λ l. second k l)) (T-right A B h) i (use-below i a)) j (body-below j b));
+  }
     where
       never : {X : Type 0} (i j : ℕ) → j < i → T (opensBody ts i) → T (opensBody ts j) → tagAt ts i ≡ tagAt ts j → X
       never i j l a b e = both-not (opensBody ts i) (opensBody ts j) (sameTag ts i j) a b (tags-same i j e)
-        (every-at i (λ k. first i k) (every-at (howMany ts) (λ k. everyBelow k (λ x. first k x)) (T-left A B h) i (body-below i a)) j l)
+          (every-at i (λ k. first i k) (every-at (howMany ts) (λ k. everyBelow k (λ x. first k x)) (T-left A B h) i (body-below i a)) j l)
+
       one : (i j : ℕ) → T (opensBody ts i) → T (opensBody ts j) → tagAt ts i ≡ tagAt ts j → Dec (j < i) → Dec (i < j) → i ≡ j
       one i j a b e (yes l) y = never i j l a b e
       one i j a b e (no l) (yes k) = never j i k b a (sym e)
@@ -108,7 +111,7 @@ module _ (ts : Tokens) where
   pub tested : Orderly ts → T (isOrderly ts)
   unfolding isOrderly
   tested c = T-both A B
-    (every-all (howMany ts) (λ i. everyBelow i (λ j. first i j)) (λ i l. every-all i (λ j. first i j) (λ j k.
+      (every-all (howMany ts) (λ i. everyBelow i (λ j. first i j)) (λ i l. every-all i (λ j. first i j) (λ j k.
       not-all (opensBody ts i) (opensBody ts j) (sameTag ts i j) (λ a b e. (let q = c .oneBody i j a b (eqb→eq (tagAt ts i) (tagAt ts j) e) in omega arith)))))
-    (every-all (howMany ts) (λ i. everyBelow (howMany ts) (λ j. second i j)) (λ i l. every-all (howMany ts) (λ j. second i j) (λ j k.
+      (every-all (howMany ts) (λ i. everyBelow (howMany ts) (λ j. second i j)) (λ i l. every-all (howMany ts) (λ j. second i j) (λ j k.
       all-or (usesEnum ts i) (opensBody ts j) (sameTag ts i j) (closedBefore ts j i) (λ a b e. c .bodyFirst i j a b (eqb→eq (tagAt ts i) (tagAt ts j) e)))))

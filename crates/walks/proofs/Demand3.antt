@@ -19,7 +19,7 @@ use Rattle.definition.specs.Cut.{tokenize}
 use Rattle.definition.specs.Entry.{Entry, wholeHeader, singleDeclaration, Accepted, parse, readWith, read, accepted, told, outcome}
 use Rattle.walks.specs.Walk.{Walks}
 use Rattle.walks.specs.Condition.{Orderly, noneTooWide, Meets, orderly}
-use Rattle.walks.proofs.Every.{All, Every, got!, no!, bool!, then!, of!}
+use Rattle.walks.proofs.Every.{All, Every, got!, no!, bool!, then!, of! }
 use Rattle.walks.proofs.WalkProof.{walks}
 use Rattle.walks.proofs.GrowProof.{kept-grows, kept-sound}
 use Rattle.walks.proofs.BodyProof.{tab, edge-adds, same-grows}
@@ -31,8 +31,8 @@ use Rattle.walks.proofs.TextRead.{all-t, lone-t}
 -- walks do not depend on values, parameters and declarations
 inv-walks : (m : Model) (t : Table) → Inv m [] t → T (orderly (t .log)) → Walks m t
 inv-walks m t i h =
-  let c = i .kept h in
-  walks m t (kept-sound m t (kept-grows m (tab (t .rows) (t .members)) t c (same-grows (tab (t .rows) (t .members)) t refl) (c .edge)
+    let c = i .kept h in
+    walks m t (kept-sound m t (kept-grows m (tab (t .rows) (t .members)) t c (same-grows (tab (t .rows) (t .members)) t refl) (c .edge)
     (edge-adds m (tab (t .rows) (t .members)) t (c .edge) (λ k e g. inl g))))
 
 placed! : {A : Type 0} {P : A → Type 0} (x : Lexed) {r : Answer A} → Every P r → Every P (inText x r)
@@ -75,7 +75,7 @@ parse-orderly singleDeclaration x m c = then! (placed! x (lone-t (x .tokens) m c
 orderly-of : (m : Model) (entry : Entry) (text : Bytes) → Every (λ a. Meets text (a .table) → T (orderly (a .table .log))) (readWith m entry text)
 unfolding readWith
 orderly-of m entry text = then! (self! (tokenize text)) λ x e. then! (under! (parse entry x m) (λ c. parse-orderly entry x m c)) λ t h.
-  got! (λ c. h (c .tags x e) (c .fields))
+    got! (λ c. h (c .tags x e) (c .fields))
 
 -- ---- the theorem: for both entries, and for every model record
 
@@ -97,23 +97,23 @@ unfolding read
 read-got model lent entry text m a q e = at (modelOf model) q lent e
   where
     at : (o : Option Model) → o ≡ some m → (b : Bool)
-      → _≡_ {A = Answer Accepted} (elim o [ none ↦ refused badCall 0 | some n ↦ elim b [ true ↦ readWith n entry text | false ↦ refused badCall 0 ] ]) (got a) → readWith m entry text ≡ got a
+        → _≡_ {A = Answer Accepted} (elim o [ none ↦ refused badCall 0 | some n ↦ elim b [ true ↦ readWith n entry text | false ↦ refused badCall 0 ] ]) (got a) → readWith m entry text ≡ got a
     at none p b h = absurd (Option·none-ne-some m p)
     at (some n) p true h = ap (λ x. readWith x entry text) (sym (Option·some-injective n m p)) ∙ h
     at (some n) p false h = let z : _≡_ {A = ℕ} 0 1 = cc in absurd (omega arith)
 
 outcome-got : (model : ℕ) (lent : Bool) (entry : Entry) (text : Bytes) (m : Model) (a : Accepted) → outcome model lent entry text ≡ accepted a → modelOf model ≡ some m
-  → readWith m entry text ≡ got a
+    → readWith m entry text ≡ got a
 unfolding outcome
 outcome-got model lent entry text m a e q = read-got model lent entry text m a q (told-got text (read model lent entry text) a e)
 
 -- Demand 3: of every text that is accepted and meets the conditions, every walk ends inside its start type, and two walks that part at two members of
 -- one struct or two indices of one array share no bit.
 pub demand3 : (model : ℕ) (lent : Bool) (entry : Entry) (text : Bytes) (m : Model) (a : Accepted) → outcome model lent entry text ≡ accepted a → modelOf model ≡ some m
-  → Meets text (a .table) → Walks m (a .table)
+    → Meets text (a .table) → Walks m (a .table)
 demand3 model lent entry text m a e q c = demand3-text m entry text a (outcome-got model lent entry text m a e q) c
 
 -- the same under the weaker conditions, on what the reader did
 pub demand3-log : (model : ℕ) (lent : Bool) (entry : Entry) (text : Bytes) (m : Model) (a : Accepted) → outcome model lent entry text ≡ accepted a → modelOf model ≡ some m
-  → T (orderly (a .table .log)) → Walks m (a .table)
+    → T (orderly (a .table .log)) → Walks m (a .table)
 demand3-log model lent entry text m a e q h = demand3-read m entry text a (outcome-got model lent entry text m a e q) h

@@ -27,12 +27,12 @@ bool! false h k = k
 
 -- the same, told which it is
 pub test! : {B : Type 0} {P : B → Type 0} (b : Bool) {x y : Answer B} → (b ≡ true → Every P x) → (b ≡ false → Every P y)
-  → Every P (elim b as (λ z. Answer B) [ true ↦ x | false ↦ y ])
+    → Every P (elim b as (λ z. Answer B) [ true ↦ x | false ↦ y ])
 test! true h k = h refl
 test! false h k = k refl
 
 pub option! : {A B : Type 0} {P : B → Type 0} (o : Option A) {x : Answer B} {f : A → Answer B} → (o ≡ none → Every P x) → ((a : A) → o ≡ some a → Every P (f a))
-  → Every P (elim o as (λ z. Answer B) [ none ↦ x | some a ↦ f a ])
+    → Every P (elim o as (λ z. Answer B) [ none ↦ x | some a ↦ f a ])
 option! none h k = h refl
 option! (some a) h k = k a refl
 

@@ -46,7 +46,7 @@ keeps-array o o′ none k = tt
 keeps-array o o′ (some b) k = keeps-times o o′ b k
 
 keeps-either : (b : Bool) (o o′ : Option ℕ) → Keeps o o′
-  → Keeps (elim b as (λ x. Option ℕ) [ true ↦ o | false ↦ none ]) (elim b as (λ x. Option ℕ) [ true ↦ o′ | false ↦ none ])
+    → Keeps (elim b as (λ x. Option ℕ) [ true ↦ o | false ↦ none ]) (elim b as (λ x. Option ℕ) [ true ↦ o′ | false ↦ none ])
 unfolding Keeps
 keeps-either true o o′ k = k
 keeps-either false o o′ k = tt
@@ -99,7 +99,6 @@ view-kept (stays r) e = e
 view-kept (sized v x z k k′) e = let q : _≡_ {A = ℕ} 0 1 = cc in absurd (omega arith)
 
 module _ (m : Model) (t t′ : Table) (g : Grows t t′) where
-
   size-keeps : (f n : ℕ) → Keeps (sizeWithin f m t n) (sizeWithin f m t′ n)
   unfolding sizeWithin Keeps
   size-keeps zero n = tt
@@ -155,7 +154,7 @@ pub record Kept (m : Model) (t : Table) : Type 0 where
   pub edge : (n : ℕ) → Edge n → rowAt t n ≡ void
   pub owned : (k : ℕ) (e : Member) → getElem? (t .members) k ≡ some e → Edge (e .row) ⊎ Own m t e
   pub ordered : (j k : ℕ) (d e : Member) → j < k → getElem? (t .members) j ≡ some d → getElem? (t .members) k ≡ some e → d .row ≡ e .row
-    → (w s : ℕ) → viewAt t (e .row) ≡ composed false w (some s) → entryEnd m t d ≤ entryFrom m t e (e .width)
+      → (w s : ℕ) → viewAt t (e .row) ≡ composed false w (some s) → entryEnd m t d ≤ entryFrom m t e (e .width)
 
 -- no struct or union stands at an edge
 pub at-edge : {X : Type 0} (t : Table) (n : ℕ) → rowAt t n ≡ void → (u : Bool) (w : ℕ) (o : Option ℕ) → viewAt t n ≡ composed u w o → X
@@ -167,24 +166,28 @@ pub kept-sound : (m : Model) (t : Table) → Kept m t → Sound m t
 kept-sound m t c = record { fits = λ k e g u w s r. one k e g u w s r (c .owned k e g); ordered = c .ordered }
   where
     one : (k : ℕ) (e : Member) → getElem? (t .members) k ≡ some e → (u : Bool) (w s : ℕ) → viewAt t (e .row) ≡ composed u w (some s) → Edge (e .row) ⊎ Own m t e
-      → (entryEnd m t e ≤ 8 * s) × PlainKnown m t e (e .width)
+        → (entryEnd m t e ≤ 8 * s) × PlainKnown m t e (e .width)
     one k e g u w s r (inl z) = at-edge t (e .row) (c .edge (e .row) z) u w (some s) r
     one k e g u w s r (inr o) = let q = o .isRow in let same : o .size ≡ s = cc in let h = o .fits in (omega arith, o .known)
 
 own-kept : (m : Model) (t t′ : Table) → Grows t t′ → (e : Member) → Own m t e → Own m t′ e
 own-kept m t t′ g e o = let w = wide-kept m t t′ g e (e .width) (o .known) in let h = o .fits in let f = from-same m t t′ e (e .width) in record {
-    union = o .union; tag = o .tag; size = o .size; isRow = view-kept (g .row (e .row)) (o .isRow)
-  ; fits = omega arith; known = plain-kept m t t′ g e (e .width) (o .known) }
+  union = o .union;
+  tag = o .tag;
+  size = o .size;
+  isRow = view-kept (g .row (e .row)) (o .isRow);
+  fits = omega arith;
+  known = plain-kept m t t′ g e (e .width) (o .known);
+}
 
 -- what a change of the table has to show of the entries that it adds or changes
 pub record Adds (m : Model) (t t′ : Table) : Type 0 where
   pub new : (k : ℕ) (e : Member) → getElem? (t′ .members) k ≡ some e → (getElem? (t .members) k ≡ some e) ⊎ (Edge (e .row) ⊎ Own m t′ e)
   pub order : (j k : ℕ) (d e : Member) → j < k → getElem? (t′ .members) j ≡ some d → getElem? (t′ .members) k ≡ some e → d .row ≡ e .row
-    → (w s : ℕ) → viewAt t′ (e .row) ≡ composed false w (some s)
-    → ((getElem? (t .members) j ≡ some d) × (getElem? (t .members) k ≡ some e)) ⊎ (entryEnd m t′ d ≤ entryFrom m t′ e (e .width))
+      → (w s : ℕ) → viewAt t′ (e .row) ≡ composed false w (some s)
+      → ((getElem? (t .members) j ≡ some d) × (getElem? (t .members) k ≡ some e)) ⊎ (entryEnd m t′ d ≤ entryFrom m t′ e (e .width))
 
 module _ (m : Model) (t t′ : Table) (c : Kept m t) (g : Grows t t′) (edge′ : (n : ℕ) → Edge n → rowAt t′ n ≡ void) where
-
   own-all : (k : ℕ) (e : Member) → (getElem? (t .members) k ≡ some e) ⊎ (Edge (e .row) ⊎ Own m t′ e) → Edge (e .row) ⊎ Own m t′ e
   own-all k e (inr n) = n
   own-all k e (inl q) = old (c .owned k e q)
@@ -195,24 +198,24 @@ module _ (m : Model) (t t′ : Table) (c : Kept m t) (g : Grows t t′) (edge′
 
   -- two old entries of one struct that has a size now: it had it before
   order-old : (j k : ℕ) (d e : Member) → j < k → getElem? (t .members) j ≡ some d → getElem? (t .members) k ≡ some e → d .row ≡ e .row
-    → (w s : ℕ) → viewAt t′ (e .row) ≡ composed false w (some s) → Edge (e .row) ⊎ Own m t e → Edge (d .row) ⊎ Own m t d
-    → entryEnd m t′ d ≤ entryFrom m t′ e (e .width)
+      → (w s : ℕ) → viewAt t′ (e .row) ≡ composed false w (some s) → Edge (e .row) ⊎ Own m t e → Edge (d .row) ⊎ Own m t d
+      → entryEnd m t′ d ≤ entryFrom m t′ e (e .width)
   order-old j k d e l gj gk same w s r (inl z) x = at-edge t′ (e .row) (edge′ (e .row) z) false w (some s) r
   order-old j k d e l gj gk same w s r (inr o) (inl z) = at-edge t′ (e .row) (edge′ (e .row) (subst (λ n. Edge n) same z)) false w (some s) r
   order-old j k d e l gj gk same w s r (inr o) (inr q) =
-    let now = view-kept (g .row (e .row)) (o .isRow) in
-    let u : o .union ≡ false = cc in
-    let before = c .ordered j k d e l gj gk same (o .tag) (o .size) (o .isRow ∙ ap (λ b. composed b (o .tag) (some (o .size))) u) in
-    let x = wide-kept m t t′ g d (d .width) (q .known) in
-    let f = from-same m t t′ d (d .width) in
-    let f′ = from-same m t t′ e (e .width) in
-    omega arith
+      let now = view-kept (g .row (e .row)) (o .isRow) in
+      let u : o .union ≡ false = cc in
+      let before = c .ordered j k d e l gj gk same (o .tag) (o .size) (o .isRow ∙ ap (λ b. composed b (o .tag) (some (o .size))) u) in
+      let x = wide-kept m t t′ g d (d .width) (q .known) in
+      let f = from-same m t t′ d (d .width) in
+      let f′ = from-same m t t′ e (e .width) in
+      omega arith
 
   pub kept-grows : Adds m t t′ → Kept m t′
   kept-grows a = record { edge = edge′; owned = λ k e q. own-all k e (a .new k e q); ordered = order }
     where
       order : (j k : ℕ) (d e : Member) → j < k → getElem? (t′ .members) j ≡ some d → getElem? (t′ .members) k ≡ some e → d .row ≡ e .row
-        → (w s : ℕ) → viewAt t′ (e .row) ≡ composed false w (some s) → entryEnd m t′ d ≤ entryFrom m t′ e (e .width)
+          → (w s : ℕ) → viewAt t′ (e .row) ≡ composed false w (some s) → entryEnd m t′ d ≤ entryFrom m t′ e (e .width)
       order j k d e l gj gk same w s r = go (a .order j k d e l gj gk same w s r)
         where
           go : ((getElem? (t .members) j ≡ some d) × (getElem? (t .members) k ≡ some e)) ⊎ (entryEnd m t′ d ≤ entryFrom m t′ e (e .width)) → entryEnd m t′ d ≤ entryFrom m t′ e (e .width)

@@ -16,7 +16,7 @@ use Rattle.definition.specs.Types.{isAlias, resolveWithin, resolve}
 use Rattle.definition.specs.Size.{sizeOf}
 use Rattle.definition.specs.Align.{alignOf, orOne}
 use Rattle.definition.specs.Layout.{roundUp, within, Laid, emptyBody, isUnsized, memberSize, plainMember, zeroField, fieldStart, fieldAt, bitField, inStruct, inUnion, placed, isLast, placedAll, bytesTaken, recordSize, layout, notWider, noneWide}
-use Rattle.walks.proofs.Every.{Every, got!, no!, bool!, test!, then!, any!, weaker!}
+use Rattle.walks.proofs.Every.{Every, got!, no!, bool!, test!, then!, any!, weaker! }
 use Rattle.walks.proofs.WalkProof.{Open, here, byName, byQualifiers, KnownOrOpen, entryFrom, entryEnd, PlainKnown}
 
 pub T-left : (a b : Bool) → T (a && b) → T a
@@ -56,7 +56,6 @@ field-ge false v a h = omega arith
 -- ---- an unsized array, looked for through at most so many typedefs and qualifiers
 
 module _ (t : Table) where
-
   open-here : (n : ℕ) (r : Row) → rowAt t n ≡ r → T (isUnsized r) → Open t n
   unfolding isUnsized kindOf flagsOf
   open-here n void e h = absurd h
@@ -94,12 +93,11 @@ module _ (t : Table) where
   open-resolved (suc f) n h = at (isAlias (rowAt t n)) refl h (λ k. open-resolved f (targetOf (rowAt t n)) k)
     where
       at : (b : Bool) → isAlias (rowAt t n) ≡ b → T (isUnsized (rowAt t (elim b as (λ x. ℕ) [ true ↦ resolveWithin f t (targetOf (rowAt t n)) | false ↦ n ])))
-        → (T (isUnsized (rowAt t (resolveWithin f t (targetOf (rowAt t n))))) → Open t (targetOf (rowAt t n))) → Open t n
+          → (T (isUnsized (rowAt t (resolveWithin f t (targetOf (rowAt t n))))) → Open t (targetOf (rowAt t n))) → Open t n
       at true z h k = open-through n (rowAt t n) refl (T-is z) (k h)
       at false z h k = open-here n (rowAt t n) refl h
 
 module _ (m : Model) (t : Table) where
-
   -- a member's size, as the layout takes it: 0 for an unsized array
   pub record SizeIs (n s : ℕ) : Type 0 where
     size : orZero (sizeOf m t n) ≡ s
@@ -124,23 +122,23 @@ module _ (m : Model) (t : Table) where
     positive : 0 < p .1 .align
 
   struct-step : (row type name : ℕ) (w : Option ℕ) (o b s a : ℕ) (l : Laid) → 0 < a → 0 < l .align → SizeIs type s
-    → Every (λ p. Put (record { row = row; type = type; name = name; width = w; offset = o; firstBit = b }) l p)
-        (inStruct w (record { row = row; type = type; name = name; width = w; offset = o; firstBit = b }) s a l)
+      → Every (λ p. Put (record { row = row; type = type; name = name; width = w; offset = o; firstBit = b }) l p)
+      (inStruct w (record { row = row; type = type; name = name; width = w; offset = o; firstBit = b }) s a l)
   unfolding inStruct plainMember zeroField bitField fieldAt
   struct-step row type name none o b s a l pos al z =
-    let f = roundUp (l .taken) (8 * a) in
-    let ge : l .taken ≤ f = up-ge (l .taken) (8 * a) (omega arith) in
-    let e8 : 8 * (f / 8) ≡ f = up-eight (l .taken) a in
-    then! (within-is o (f + 8 * s)) λ end q. got! (record { sameRow = refl; begins = omega arith; known = z .known; ends = omega (arith, e8, z .size, q); positive = omega arith })
+      let f = roundUp (l .taken) (8 * a) in
+      let ge : l .taken ≤ f = up-ge (l .taken) (8 * a) (omega arith) in
+      let e8 : 8 * (f / 8) ≡ f = up-eight (l .taken) a in
+      then! (within-is o (f + 8 * s)) λ end q. got! (record { sameRow = refl; begins = omega arith; known = z .known; ends = omega (arith, e8, z .size, q); positive = omega arith })
   struct-step row type name (some zero) o b s a l pos al z =
-    let ge : l .taken ≤ roundUp (l .taken) (8 * a) = up-ge (l .taken) (8 * a) (omega arith) in
-    then! (within-is o (roundUp (l .taken) (8 * a))) λ end q. got! (record { sameRow = refl; begins = omega arith; known = tt; ends = omega arith; positive = omega arith })
+      let ge : l .taken ≤ roundUp (l .taken) (8 * a) = up-ge (l .taken) (8 * a) (omega arith) in
+      then! (within-is o (roundUp (l .taken) (8 * a))) λ end q. got! (record { sameRow = refl; begins = omega arith; known = tt; ends = omega arith; positive = omega arith })
   struct-step row type name (some (suc w)) o b s a l pos al z =
-    let unit = 8 * max s 1 in
-    then! (within-is o (l .taken / unit * unit + unit)) λ u v.
-    let f = fieldStart (ltb u (l .taken + suc w)) (l .taken) a in
-    let ge : l .taken ≤ f = field-ge (ltb u (l .taken + suc w)) (l .taken) a pos in
-    then! (within-is o (f + suc w)) λ end q. got! (record { sameRow = refl; begins = ge; known = tt; ends = omega arith; positive = omega arith })
+      let unit = 8 * max s 1 in
+      then! (within-is o (l .taken / unit * unit + unit)) λ u v.
+      let f = fieldStart (ltb u (l .taken + suc w)) (l .taken) a in
+      let ge : l .taken ≤ f = field-ge (ltb u (l .taken + suc w)) (l .taken) a pos in
+      then! (within-is o (f + suc w)) λ end q. got! (record { sameRow = refl; begins = ge; known = tt; ends = omega arith; positive = omega arith })
 
   -- ---- a union's member
 
@@ -152,14 +150,14 @@ module _ (m : Model) (t : Table) where
     positive : 0 < p .1 .align
 
   union-step : (row type name : ℕ) (w : Option ℕ) (o b s a : ℕ) (l : Laid) → 0 < a → 0 < l .align → SizeIs type s → T (notWider (orZero (sizeOf m t type)) w)
-    → Laps (record { row = row; type = type; name = name; width = w; offset = o; firstBit = b }) l
-        (inUnion (record { row = row; type = type; name = name; width = w; offset = o; firstBit = b }) s a l)
+      → Laps (record { row = row; type = type; name = name; width = w; offset = o; firstBit = b }) l
+      (inUnion (record { row = row; type = type; name = name; width = w; offset = o; firstBit = b }) s a l)
   unfolding inUnion
   union-step row type name none o b s a l pos al z c = record { sameRow = refl; wider = omega arith; known = z .known; ends = omega (arith, z .size); positive = omega arith }
   union-step row type name (some zero) o b s a l pos al z c = record { sameRow = refl; wider = omega arith; known = tt; ends = omega arith; positive = omega arith }
   union-step row type name (some (suc w)) o b s a l pos al z c =
-    let n : suc w ≤ 8 * orZero (sizeOf m t type) = leb→le (suc w) (8 * orZero (sizeOf m t type)) c in
-    record { sameRow = refl; wider = omega arith; known = tt; ends = omega (arith, z .size); positive = omega arith }
+      let n : suc w ≤ 8 * orZero (sizeOf m t type) = leb→le (suc w) (8 * orZero (sizeOf m t type)) c in
+      record { sameRow = refl; wider = omega arith; known = tt; ends = omega (arith, z .size); positive = omega arith }
 
   -- ---- all entries that carry the body's mark
 
@@ -177,7 +175,7 @@ module _ (m : Model) (t : Table) where
   Run : ℕ → ℕ → List Member → ℕ → Type 0
   Run mark lo [] hi = lo ≤ hi
   Run mark lo (e ∷ es) hi = ((e .row ≢ mark) × Run mark lo es hi)
-    ⊎ ((lo ≤ entryFrom m t e (e .width)) × PlainKnown m t e (e .width) × Run mark (entryEnd m t e) es hi)
+      ⊎ ((lo ≤ entryFrom m t e (e .width)) × PlainKnown m t e (e .width) × Run mark (entryEnd m t e) es hi)
 
   run-from : (mark lo lo′ : ℕ) (es : List Member) (hi : ℕ) → lo′ ≤ lo → Run mark lo es hi → Run mark lo′ es hi
   unfolding Run
@@ -192,17 +190,17 @@ module _ (m : Model) (t : Table) where
   run-to mark lo (e ∷ es) hi hi′ h (inr q) = inr (q .0, q .1, run-to mark (entryEnd m t e) es hi hi′ h (q .2))
 
   struct-all : (mark : ℕ) (es : List Member) (l : Laid) → 0 < l .align
-    → Every (λ r. Pairs mark es (r .0) × Run mark (l .taken) (r .0) (r .1 .taken) × (0 < r .1 .align)) (placedAll m t false mark es l)
+      → Every (λ r. Pairs mark es (r .0) × Run mark (l .taken) (r .0) (r .1 .taken) × (0 < r .1 .align)) (placedAll m t false mark es l)
   unfolding placedAll placed Pairs Run
   struct-all mark [] l al = got! (tt, omega arith, al)
   struct-all mark (e ∷ es) l al = test! (eqb (e .row) mark)
-    (λ z. then! {P = λ p. Put e l p}
+      (λ z. then! {P = λ p. Put e l p}
       (then! (size-is (e .type) (e .offset) (isLast m t false mark es)) λ s q.
-        struct-step (e .row) (e .type) (e .name) (e .width) (e .offset) (e .firstBit) s (max (orOne (alignOf m t (e .type))) 1) l (omega arith) al q) λ p put.
+      struct-step (e .row) (e .type) (e .name) (e .width) (e .offset) (e .firstBit) s (max (orOne (alignOf m t (e .type))) 1) l (omega arith) al q) λ p put.
       then! (struct-all mark es (p .1) (put .positive)) λ r h.
       let is : e .row ≡ mark = eqb→eq (e .row) mark (T-is z) in
       got! ((inr (is, put .sameRow ∙ is), h .0), inr (put .begins, put .known, run-from mark (p .1 .taken) (entryEnd m t (p .0)) (r .0) (r .1 .taken) (put .ends) (h .1)), h .2))
-    (λ z. then! (struct-all mark es l al) λ r h. got! ((inl refl, h .0), inl (eqb-no (e .row) mark z, h .1), h .2))
+      (λ z. then! (struct-all mark es l al) λ r h. got! ((inl refl, h .0), inl (eqb-no (e .row) mark z, h .1), h .2))
 
   -- entries that carry the mark, each up to a top
   Held : ℕ → List Member → ℕ → Type 0
@@ -222,43 +220,43 @@ module _ (m : Model) (t : Table) where
   narrow-here e mark b z h = subst (λ x. T (not x || b)) z h
 
   union-all : (mark : ℕ) (es : List Member) (l : Laid) → 0 < l .align → T (noneWide m t mark es)
-    → Every (λ r. Pairs mark es (r .0) × Held mark (r .0) (8 * r .1 .widest) × (l .widest ≤ r .1 .widest) × (0 < r .1 .align)) (placedAll m t true mark es l)
+      → Every (λ r. Pairs mark es (r .0) × Held mark (r .0) (8 * r .1 .widest) × (l .widest ≤ r .1 .widest) × (0 < r .1 .align)) (placedAll m t true mark es l)
   unfolding placedAll placed Pairs Held noneWide
   union-all mark [] l al c = got! (tt, tt, omega arith, al)
   union-all mark (e ∷ es) l al c =
-    let fit = notWider (orZero (sizeOf m t (e .type))) (e .width) in
-    let c₀ = T-left (not (eqb (e .row) mark) || fit) (noneWide m t mark es) c in
-    let c₁ = T-right (not (eqb (e .row) mark) || fit) (noneWide m t mark es) c in
-    test! (eqb (e .row) mark)
-    (λ z. then! {P = λ p. Laps e l p}
+      let fit = notWider (orZero (sizeOf m t (e .type))) (e .width) in
+      let c₀ = T-left (not (eqb (e .row) mark) || fit) (noneWide m t mark es) c in
+      let c₁ = T-right (not (eqb (e .row) mark) || fit) (noneWide m t mark es) c in
+      test! (eqb (e .row) mark)
+      (λ z. then! {P = λ p. Laps e l p}
       (then! (size-is (e .type) (e .offset) (isLast m t true mark es)) λ s q.
-        got! (union-step (e .row) (e .type) (e .name) (e .width) (e .offset) (e .firstBit) s (max (orOne (alignOf m t (e .type))) 1) l (omega arith) al q (narrow-here e mark fit z c₀))) λ p put.
+      got! (union-step (e .row) (e .type) (e .name) (e .width) (e .offset) (e .firstBit) s (max (orOne (alignOf m t (e .type))) 1) l (omega arith) al q (narrow-here e mark fit z c₀))) λ p put.
       then! (union-all mark es (p .1) (put .positive) c₁) λ r h.
       let is : e .row ≡ mark = eqb→eq (e .row) mark (T-is z) in
       let w = put .wider in
       let k = put .ends in
       got! ((inr (is, put .sameRow ∙ is), h .0), (inr (omega arith, put .known), h .1), omega arith, h .3))
-    (λ z. then! (union-all mark es l al c₁) λ r h. got! ((inl refl, h .0), (inl (eqb-no (e .row) mark z), h .1), h .2, h .3))
+      (λ z. then! (union-all mark es l al c₁) λ r h. got! ((inl refl, h .0), (inl (eqb-no (e .row) mark z), h .1), h .2, h .3))
 
   -- ---- the size of the whole
 
   struct-size : (at : ℕ) (l : Laid) → 0 < l .align → Every (λ s. l .taken ≤ 8 * s) (recordSize m t false at l)
   unfolding recordSize bytesTaken
   struct-size at l al = then! {P = λ b. l .taken ≤ 8 * b}
-    (then! (within-is at (roundUp (l .taken) 8)) λ b q. got! (omega (arith, q, up-ge (l .taken) 8 (omega arith), up-eight (l .taken) 1))) λ b h.
-    then! (within-is at (roundUp b (l .align))) λ s q. let g = up-ge b (l .align) al in bool! (ltb s (2 ^ 32)) (got! (omega arith)) no!
+      (then! (within-is at (roundUp (l .taken) 8)) λ b q. got! (omega (arith, q, up-ge (l .taken) 8 (omega arith), up-eight (l .taken) 1))) λ b h.
+      then! (within-is at (roundUp b (l .align))) λ s q. let g = up-ge b (l .align) al in bool! (ltb s (2 ^ 32)) (got! (omega arith)) no!
 
   union-size : (at : ℕ) (l : Laid) → 0 < l .align → Every (λ s. l .widest ≤ s) (recordSize m t true at l)
   unfolding recordSize bytesTaken
   union-size at l al = then! {P = λ b. l .widest ≡ b} (got! refl) λ b h.
-    then! (within-is at (roundUp b (l .align))) λ s q. let g = up-ge b (l .align) al in bool! (ltb s (2 ^ 32)) (got! (omega arith)) no!
+      then! (within-is at (roundUp b (l .align))) λ s q. let g = up-ge b (l .align) al in bool! (ltb s (2 ^ 32)) (got! (omega arith)) no!
 
   -- ---- what a body's entries are: each within s bytes, and a struct's in order
 
   pub record Laying (mark : ℕ) (u : Bool) (s : ℕ) (ds : List Member) : Type 0 where
     pub each : (k : ℕ) (e : Member) → getElem? ds k ≡ some e → e .row ≡ mark → (entryEnd m t e ≤ 8 * s) × PlainKnown m t e (e .width)
     pub inOrder : u ≡ false → (j k : ℕ) (d e : Member) → j < k → getElem? ds j ≡ some d → getElem? ds k ≡ some e → d .row ≡ mark → e .row ≡ mark
-      → entryEnd m t d ≤ entryFrom m t e (e .width)
+        → entryEnd m t d ≤ entryFrom m t e (e .width)
 
   run-le : (mark lo : ℕ) (es : List Member) (hi : ℕ) → Run mark lo es hi → lo ≤ hi
   unfolding Run
@@ -275,23 +273,23 @@ module _ (m : Model) (t : Table) where
   run-at mark lo (d ∷ es) hi (inl q) zero e h i = absurd (q .0 (ap (λ x. x .row) (Option·some-injective d e h) ∙ i))
   run-at mark lo (d ∷ es) hi (inl q) (suc k) e h i = run-at mark lo es hi (q .1) k e h i
   run-at mark lo (d ∷ es) hi (inr q) zero e h i =
-    subst (λ x. Fits lo x hi) (Option·some-injective d e h) (q .0, run-le mark (entryEnd m t d) es hi (q .2), q .1)
+      subst (λ x. Fits lo x hi) (Option·some-injective d e h) (q .0, run-le mark (entryEnd m t d) es hi (q .2), q .1)
   run-at mark lo (d ∷ es) hi (inr q) (suc k) e h i = let r = run-at mark (entryEnd m t d) es hi (q .2) k e h i in (omega arith, r .1, r .2)
 
   run-order : (mark lo : ℕ) (es : List Member) (hi : ℕ) → Run mark lo es hi → (j k : ℕ) (d e : Member) → j < k → getElem? es j ≡ some d → getElem? es k ≡ some e
-    → d .row ≡ mark → e .row ≡ mark → entryEnd m t d ≤ entryFrom m t e (e .width)
+      → d .row ≡ mark → e .row ≡ mark → entryEnd m t d ≤ entryFrom m t e (e .width)
   unfolding Run Fits
   run-order mark lo [] hi r j k d e l g h i i′ = absurd (Option·none-ne-some d g)
   run-order mark lo (a ∷ es) hi r zero zero d e l g h i i′ = absurd (omega arith)
   run-order mark lo (a ∷ es) hi (inl q) zero (suc k) d e l g h i i′ = absurd (q .0 (ap (λ x. x .row) (Option·some-injective a d g) ∙ i))
   run-order mark lo (a ∷ es) hi (inr q) zero (suc k) d e l g h i i′ =
-    subst (λ x. entryEnd m t x ≤ entryFrom m t e (e .width)) (Option·some-injective a d g) ((run-at mark (entryEnd m t a) es hi (q .2) k e h i′) .0)
+      subst (λ x. entryEnd m t x ≤ entryFrom m t e (e .width)) (Option·some-injective a d g) ((run-at mark (entryEnd m t a) es hi (q .2) k e h i′) .0)
   run-order mark lo (a ∷ es) hi r (suc j) zero d e l g h i i′ = absurd (omega arith)
   run-order mark lo (a ∷ es) hi (inl q) (suc j) (suc k) d e l g h i i′ = run-order mark lo es hi (q .1) j k d e (omega arith) g h i i′
   run-order mark lo (a ∷ es) hi (inr q) (suc j) (suc k) d e l g h i i′ = run-order mark (entryEnd m t a) es hi (q .2) j k d e (omega arith) g h i i′
 
   held-at : (mark : ℕ) (es : List Member) (top : ℕ) → Held mark es top → (k : ℕ) (e : Member) → getElem? es k ≡ some e → e .row ≡ mark
-    → (entryEnd m t e ≤ top) × PlainKnown m t e (e .width)
+      → (entryEnd m t e ≤ top) × PlainKnown m t e (e .width)
   unfolding Held
   held-at mark [] top h k e g i = absurd (Option·none-ne-some e g)
   held-at mark (d ∷ es) top h zero e g i = subst (λ x. (entryEnd m t x ≤ top) × PlainKnown m t x (x .width)) (Option·some-injective d e g) (one (h .0))
@@ -312,31 +310,43 @@ module _ (m : Model) (t : Table) where
   unfolding placedAll placed inUnion Pairs
   union-any mark [] l = got! tt
   union-any mark (e ∷ es) l = test! (eqb (e .row) mark)
-    (λ z. then! {P = λ p. p .0 .row ≡ e .row} (then! (size-is (e .type) (e .offset) (isLast m t true mark es)) λ s q. got! refl) λ p h.
+      (λ z. then! {P = λ p. p .0 .row ≡ e .row} (then! (size-is (e .type) (e .offset) (isLast m t true mark es)) λ s q. got! refl) λ p h.
       let is : e .row ≡ mark = eqb→eq (e .row) mark (T-is z) in
       then! (union-any mark es (p .1)) λ r k. got! (inr (is, h ∙ is), k))
-    (λ z. then! (union-any mark es l) λ r k. got! (inl refl, k))
+      (λ z. then! (union-any mark es l) λ r k. got! (inl refl, k))
 
   pub layout-ok : (u : Bool) (first at : ℕ) → Every (λ r. Placed u first r) (layout m t u first at)
   unfolding layout
   layout-ok false first at =
-    then! (struct-all (markOf first) (drop first (t .members)) emptyBody (omega arith)) λ r h.
-    then! (struct-size at (r .1) (h .2)) λ s q.
-    let run = run-to (markOf first) 0 (r .0) (r .1 .taken) (8 * s) q (h .1) in
-    got! (record { from = r .0; isList = refl; pairs = h .0; laid = λ c. record {
-        each = λ k e g i. (let f = run-at (markOf first) 0 (r .0) (8 * s) run k e g i in (unfold Fits in (f .1, f .2)))
-      ; inOrder = λ z. run-order (markOf first) 0 (r .0) (8 * s) run } })
+      then! (struct-all (markOf first) (drop first (t .members)) emptyBody (omega arith)) λ r h.
+      then! (struct-size at (r .1) (h .2)) λ s q.
+      let run = run-to (markOf first) 0 (r .0) (r .1 .taken) (8 * s) q (h .1) in
+      got! (record {
+        from = r .0;
+        isList = refl;
+        pairs = h .0;
+        laid = λ c. record {
+          each = λ k e g i. (let f = run-at (markOf first) 0 (r .0) (8 * s) run k e g i in (unfold Fits in (f .1, f .2)));
+          inOrder = λ z. run-order (markOf first) 0 (r .0) (8 * s) run;
+        };
+      })
   layout-ok true first at = go (noneWide m t (markOf first) (drop first (t .members))) refl
     where
       go : (b : Bool) → noneWide m t (markOf first) (drop first (t .members)) ≡ b → Every (λ r. Placed true first r) (layout m t true first at)
       go false z =
-        then! (union-any (markOf first) (drop first (t .members)) emptyBody) λ r h.
-        then! (any! (recordSize m t true at (r .1))) λ s q.
-        got! (record { from = r .0; isList = refl; pairs = h; laid = λ c. absurd (subst T z c) })
+          then! (union-any (markOf first) (drop first (t .members)) emptyBody) λ r h.
+          then! (any! (recordSize m t true at (r .1))) λ s q.
+          got! (record { from = r .0; isList = refl; pairs = h; laid = λ c. absurd (subst T z c) })
       go true z =
-        then! (union-all (markOf first) (drop first (t .members)) emptyBody (omega arith) (T-is z)) λ r h.
-        then! (union-size at (r .1) (h .3)) λ s q.
-        let held = held-to (markOf first) (r .0) (8 * r .1 .widest) (8 * s) (omega arith) (h .1) in
-        got! (record { from = r .0; isList = refl; pairs = h .0; laid = λ c. record {
-            each = held-at (markOf first) (r .0) (8 * s) held
-          ; inOrder = λ y. (let n : _≡_ {A = ℕ} 0 1 = cc in absurd (omega arith)) } })
+          then! (union-all (markOf first) (drop first (t .members)) emptyBody (omega arith) (T-is z)) λ r h.
+          then! (union-size at (r .1) (h .3)) λ s q.
+          let held = held-to (markOf first) (r .0) (8 * r .1 .widest) (8 * s) (omega arith) (h .1) in
+          got! (record {
+            from = r .0;
+            isList = refl;
+            pairs = h .0;
+            laid = λ c. record {
+              each = held-at (markOf first) (r .0) (8 * s) held;
+              inOrder = λ y. (let n : _≡_ {A = ℕ} 0 1 = cc in absurd (omega arith));
+            };
+          })

@@ -28,7 +28,7 @@ use Rattle.definition.specs.Mark.{Mark, Written, twoByteMarks, oneByteMarks, ma
 use Rattle.definition.specs.Word as Word
 use Rattle.definition.specs.Token.{Token, columns}
 use Rattle.definition.specs.Cut.{Cutting, skipTo, newLine, dropTo, push, meet, pushName, pushAttribute, cutWordOf, wordAt, cutWord, numberWord, cutNumber, cutCharacter, cutString, cutMark, cutToken, cutDirective, cutComment, cutOther, cutNext, cutAll, start, cut, checkBytes, tokenize}
-use Rattle.walks.proofs.Every.{Every, got!, no!, bool!, test!, then!, any!}
+use Rattle.walks.proofs.Every.{Every, got!, no!, bool!, test!, then!, any! }
 use Rattle.walks.proofs.LayoutProof.{T-is}
 use Rattle.walks.proofs.ReadProof.{Named}
 
@@ -85,7 +85,7 @@ unfolding pushName
 pushName-fine k w s l f = at (eqb (knownName (s .names) w) noName) refl
   where
     at : (b : Bool) → eqb (knownName (s .names) w) noName ≡ b
-      → Fine (elim b as (λ z. Cutting) [ true ↦ push k (nameOf (s .at) (length w)) (s .at + length w) (meet w s) | false ↦ push k (knownName (s .names) w) (s .at + length w) s ])
+        → Fine (elim b as (λ z. Cutting) [ true ↦ push k (nameOf (s .at) (length w)) (s .at + length w) (meet w s) | false ↦ push k (knownName (s .names) w) (s .at + length w) s ])
     at true z = push-fine k (nameOf (s .at) (length w)) (s .at + length w) (meet w s) (λ h e. (unfold nameOf in omega arith)) (unfold meet in f)
     at false z = push-fine k (knownName (s .names) w) (s .at + length w) s (λ h e. subst T z (subst (λ x. T (eqb x noName)) (sym e) (eqb-refl noName))) f
 
@@ -100,12 +100,12 @@ attribute-fine a s f = at (a .layout)
 cutWordOf-fine : (text : Bytes) (k : ℕ) (w : Bytes) (s : Cutting) → 0 < length w → Fine s → Every (λ x. Fine x) (cutWordOf text k w s)
 unfolding cutWordOf
 cutWordOf-fine text k w s l f = bool! (eqb k kind.attribute) (then! (any! (attributeAt text (s .at) (s .at + length w))) λ a u. got! (attribute-fine a s f))
-  (test! (isName k) (λ z. got! (pushName-fine k w s l f)) (λ z. got! (push-fine k 0 (s .at + length w) s (λ h. absurd (subst T z h)) f)))
+    (test! (isName k) (λ z. got! (pushName-fine k w s l f)) (λ z. got! (push-fine k 0 (s .at + length w) s (λ h. absurd (subst T z h)) f)))
 
 cutWord-fine : (text : Bytes) (s : Cutting) → T (eqb (classOf (byteAt text (s .at))) letter) → Fine s → Every (λ x. Fine x) (cutWord text s)
 unfolding cutWord wordAt
 cutWord-fine text s h f = cutWordOf-fine text (Word.kindOf (wordAt text (s .at))) (wordAt text (s .at)) s
-  (word-long (drop (s .at) text) (subst (λ b. T (eqb (classOf b) letter)) (sym (drop-first text (s .at))) h)) f
+    (word-long (drop (s .at) text) (subst (λ b. T (eqb (classOf b) letter)) (sym (drop-first text (s .at))) h)) f
 
 -- ---- marks are no names
 
@@ -119,7 +119,7 @@ among-none [] n a h = h
 among-none (m ∷ ms) n a h = at (isName (m .kind)) refl a (eqb n (m .written)) h (λ b g. among-none ms n b g)
   where
     at : (x : Bool) → isName (m .kind) ≡ x → T (elim x as (λ z. Bool) [ true ↦ false | false ↦ noNames ms ]) → (y : Bool)
-      → T (isName (elim y as (λ z. ℕ) [ true ↦ m .kind | false ↦ markAmong ms n ])) → (T (noNames ms) → T (isName (markAmong ms n)) → ⊥) → ⊥
+        → T (isName (elim y as (λ z. ℕ) [ true ↦ m .kind | false ↦ markAmong ms n ])) → (T (noNames ms) → T (isName (markAmong ms n)) → ⊥) → ⊥
     at true z a y h f = absurd a
     at false z a true h f = subst T z h
     at false z a false h f = f a h
@@ -136,8 +136,10 @@ mark-none : (a b c : ℕ) → T (isName (markOf a b c .kind)) → ⊥
 unfolding markOf shortMark
 mark-none a b c h = at (eqb a dotByte && (eqb b dotByte && eqb c dotByte)) (eqb (markAmong twoByteMarks (pair a b)) kind.end) h
   where
-    at : (x y : Bool) → T (isName ((elim x as (λ z. Mark) [ true ↦ record { kind = kind.ellipsis; size = 3 }
-      | false ↦ elim y as (λ z. Mark) [ true ↦ record { kind = markAmong oneByteMarks a; size = 1 } | false ↦ record { kind = markAmong twoByteMarks (pair a b); size = 2 } ] ]) .kind)) → ⊥
+    at : (x y : Bool) → T (isName ((elim x as (λ z. Mark) [
+      | true ↦ record { kind = kind.ellipsis; size = 3 }
+      | false ↦ elim y as (λ z. Mark) [ true ↦ record { kind = markAmong oneByteMarks a; size = 1 } | false ↦ record { kind = markAmong twoByteMarks (pair a b); size = 2 } ]
+    ]) .kind)) → ⊥
     at true y h = unfold isName in h
     at false true h = one-none a h
     at false false h = two-none (pair a b) h
@@ -145,7 +147,7 @@ mark-none a b c h = at (eqb a dotByte && (eqb b dotByte && eqb c dotByte)) (eqb 
 cutMark-fine : (text : Bytes) (s : Cutting) → Fine s → Every (λ x. Fine x) (cutMark text s)
 unfolding cutMark markAt
 cutMark-fine text s f = let bs = from text (s .at) in let m = markAt bs in bool! (eqb (m .kind) kind.end) no!
-  (got! (push-fine (m .kind) 0 (s .at + m .size) s (λ h. absurd (mark-none (byteAt bs 0) (byteAt bs 1) (byteAt bs 2) h)) f))
+    (got! (push-fine (m .kind) 0 (s .at + m .size) s (λ h. absurd (mark-none (byteAt bs 0) (byteAt bs 1) (byteAt bs 2) h)) f))
 
 -- ---- all of a text
 
@@ -164,13 +166,13 @@ cutString-fine text s f = then! (any! (afterString text (s .at))) λ n u. got! (
 cutToken-fine : (text : Bytes) (s : Cutting) → Fine s → Every (λ x. Fine x) (cutToken text s)
 unfolding cutToken
 cutToken-fine text s f = let b = byteAt text (s .at) in
-  test! (eqb (classOf b) letter) (λ z. cutWord-fine text s (T-is z) f) (λ z. bool! (eqb (classOf b) digit) (cutNumber-fine text s f)
+    test! (eqb (classOf b) letter) (λ z. cutWord-fine text s (T-is z) f) (λ z. bool! (eqb (classOf b) digit) (cutNumber-fine text s f)
     (bool! (eqb b apostrophe) (cutCharacter-fine text s f) (bool! (eqb b quote) (cutString-fine text s f) (cutMark-fine text s f))))
 
 cutOther-fine : (text : Bytes) (s : Cutting) → Fine s → Every (λ x. Fine x) (cutOther text s)
 unfolding cutOther cutComment cutDirective skipTo
 cutOther-fine text s f = let bs = from text (s .at) in
-  bool! (joins bs) (got! f) (bool! (opensLineComment bs) (got! f) (bool! (opensComment bs) (then! (any! (afterComment text (s .at))) λ n u. got! f)
+    bool! (joins bs) (got! f) (bool! (opensLineComment bs) (got! f) (bool! (opensComment bs) (then! (any! (afterComment text (s .at))) λ n u. got! f)
     (bool! (eqb (first bs) hash && s .lineStart) (bool! (isMacro (directive text (s .at) .line)) no! (got! f)) (cutToken-fine text s f))))
 
 cutNext-fine : (text : Bytes) (s : Cutting) → Fine s → Every (λ x. Fine x) (cutNext text s)
@@ -185,4 +187,4 @@ cutAll-fine (suc n) text s f = bool! (leb (length text) (s .at)) (got! f) (then!
 pub tokenize-named : (text : Bytes) → Every (λ x. Named (x .tokens)) (tokenize text)
 unfolding tokenize cut columns AllGood
 tokenize-named text = bool! (ltb maxText (length text)) no! (then! (any! (checkBytes text)) λ n u.
-  then! (cutAll-fine (suc (length text)) text start tt) λ s f. got! (λ i h. named-columns (s .tokens) i f h))
+    then! (cutAll-fine (suc (length text)) text start tt) λ s f. got! (λ i h. named-columns (s .tokens) i f h))

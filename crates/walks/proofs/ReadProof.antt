@@ -31,7 +31,7 @@ use Rattle.definition.specs.Composite.{fieldsOnly, Body, laidBody, widthOf, isC
 use Rattle.definition.specs.Enumeration.{enumBytes, valuesSince, valueNamed, enumeratorValue, enumerator, enumeratorsFrom, enumBody, afterTag, enumeration₁}
 use Rattle.definition.specs.Reader.{constantHere, levels, nested, skipInitialiser, initialiser, defineTypedef, isTypedef, declaredRow, declare, inner, initDeclarator, initDeclarators, declaration, separated, declarationsFrom, start, optionalSemicolon, nothingMore, allDeclarations, loneDeclaration}
 use Rattle.walks.specs.Condition.{orderly}
-use Rattle.walks.proofs.Every.{Every, got!, no!, bool!, test!, option!, then!, any!}
+use Rattle.walks.proofs.Every.{Every, got!, no!, bool!, test!, option!, then!, any! }
 use Rattle.walks.proofs.WalkProof.{composed, listed, viewOf}
 use Rattle.walks.proofs.LayoutProof.{T-is, Placed, layout-ok}
 use Rattle.walks.proofs.GrowProof.{not-other}
@@ -126,16 +126,16 @@ float! {s} = yes! (float-plain s)
 combine-scalar : (m : Model) (ws : Words) → Scalar (combine m ws)
 unfolding combine doubleType charType shortType intType
 combine-scalar m ws =
-  if! (ltb 1 (signs ws)) nil! (if! (ltb 0 (howMany complexWord ws)) nil!
-  (if! (ltb 0 (howMany voidWord ws)) (if! (eqb (total ws) 1) (yes! void-plain) nil!)
-  (if! (ltb 0 (howMany boolWord ws)) (if! (eqb (total ws) 1) (yes! bool-plain) nil!)
-  (if! (ltb 0 (howMany floatWord ws)) (if! (eqb (total ws) 1) float! nil!)
-  (if! (ltb 0 (howMany doubleWord ws))
+    if! (ltb 1 (signs ws)) nil! (if! (ltb 0 (howMany complexWord ws)) nil!
+    (if! (ltb 0 (howMany voidWord ws)) (if! (eqb (total ws) 1) (yes! void-plain) nil!)
+    (if! (ltb 0 (howMany boolWord ws)) (if! (eqb (total ws) 1) (yes! bool-plain) nil!)
+    (if! (ltb 0 (howMany floatWord ws)) (if! (eqb (total ws) 1) float! nil!)
+    (if! (ltb 0 (howMany doubleWord ws))
     (if! (ltb 0 (howMany shortWord ws) || (ltb 0 (howMany intWord ws) || (ltb 0 (signs ws) || ltb 1 (howMany longWord ws)))) nil! (if! (eqb (howMany longWord ws) 1) float! float!))
-  (if! (ltb 0 (howMany charWord ws))
+    (if! (ltb 0 (howMany charWord ws))
     (if! (ltb 0 (howMany shortWord ws) || (ltb 0 (howMany longWord ws) || ltb 0 (howMany intWord ws))) nil! (if! (eqb (signs ws) 0) int! int!))
-  (if! (ltb 0 (howMany shortWord ws)) (if! (ltb 0 (howMany longWord ws)) nil! int!)
-  (if! (eqb (howMany intWord ws + signs ws + howMany longWord ws) (total ws) && ltb 0 (total ws))
+    (if! (ltb 0 (howMany shortWord ws)) (if! (ltb 0 (howMany longWord ws)) nil! int!)
+    (if! (eqb (howMany intWord ws + signs ws + howMany longWord ws) (total ws) && ltb 0 (total ws))
     (if! (eqb (howMany longWord ws) 0) int! (if! (eqb (howMany longWord ws) 1) int! (if! (eqb (howMany longWord ws) 2) int! nil!))) nil!))))))))
 
 allPlain : List (ℕ × Row) → Bool
@@ -161,14 +161,16 @@ qualifiers-same : (ts : Tokens) (f : ℕ) (q : Qualifiers) (s : State) → (qual
 unfolding qualifiersFrom
 qualifiers-same ts zero q s = refl
 qualifiers-same ts (suc f) q s =
-  at (isQualifierWord (kindAt ts (s .at))) (stands ts atomicWord s) (qualifiers-same ts f (withQualifier (kindAt ts (s .at)) q) (skip s)) (qualifiers-same ts f q (skip s))
+    at (isQualifierWord (kindAt ts (s .at))) (stands ts atomicWord s) (qualifiers-same ts f (withQualifier (kindAt ts (s .at)) q) (skip s)) (qualifiers-same ts f q (skip s))
   where
     X : Qualifiers × State
     X = qualifiersFrom ts f (withQualifier (kindAt ts (s .at)) q) (skip s)
+
     Y : Qualifiers × State
     Y = qualifiersFrom ts f q (skip s)
+
     at : (b c : Bool) → X .1 .table ≡ s .table → Y .1 .table ≡ s .table
-      → (elim b as (λ z. Qualifiers × State) [ true ↦ X | false ↦ elim c as (λ z. Qualifiers × State) [ true ↦ Y | false ↦ (q, s) ] ]) .1 .table ≡ s .table
+        → (elim b as (λ z. Qualifiers × State) [ true ↦ X | false ↦ elim c as (λ z. Qualifiers × State) [ true ↦ Y | false ↦ (q, s) ] ]) .1 .table ≡ s .table
     at true c h k = h
     at false true h k = k
     at false false h k = refl
@@ -189,6 +191,7 @@ skip-same ts (suc f) d s = at (stands ts end s || ((stands ts comma s || stands 
   where
     X : State
     X = skipInitialiser ts f (nested (kindAt ts (s .at)) d) (skip s)
+
     at : (b : Bool) → X .table ≡ s .table → (elim b as (λ z. State) [ true ↦ s | false ↦ X ]) .table ≡ s .table
     at true h = refl
     at false h = h
@@ -210,7 +213,6 @@ record LevelsOk (m : Model) (next : Levels) : Type 0 where
   constant : (ps : List Pend) (s : State) → Inv m ps (s .table) → On m ps (next .constant s)
 
 module _ (m : Model) (ps : List Pend) where
-
   pushValue-ok : (e : Value) (s : State) → Inv m ps (s .table) → On m ps (pushValue e s)
   unfolding pushValue
   pushValue-ok e s i = bool! (leb maxValues (length (s .table .values))) no! (got! i)
@@ -232,21 +234,21 @@ module _ (m : Model) (ps : List Pend) where
   qualify-ok : (q : Qualifiers) (n : ℕ) (s : State) → Inv m ps (s .table) → On m ps (qualify q n s)
   unfolding qualify
   qualify-ok q n s i = bool! (isUnqualified q) (got! i)
-    (bool! (eqb (kindOf (rowAt (s .table) n)) qualifiedKind) (add-ok m ps _ s (qualified-plain _ _) i)
+      (bool! (eqb (kindOf (rowAt (s .table) n)) qualifiedKind) (add-ok m ps _ s (qualified-plain _ _) i)
       (add-ok m ps _ s (qualified-plain _ _) i))
 
   namedType-ok : (ts : Tokens) (s : State) → Inv m ps (s .table) → On m ps (namedType ts m s)
   unfolding namedType
   namedType-ok ts s i = bool! (isName (kindAt ts (s .at)))
-    (option! (typedefRow (s .table) (numberAt ts (s .at)))
+      (option! (typedefRow (s .table) (numberAt ts (s .at)))
       (λ e. option! (builtin m (kindAt ts (s .at))) (λ z. no!) (λ r z. add-ok m ps r s (builtin-scalar m (kindAt ts (s .at)) .is r z) i))
       (λ n e. got! i))
-    no!
+      no!
 
   wordsType-ok : (p : Specifiers) (at : ℕ) (s : State) → Inv m ps (s .table) → On m ps (wordsType m p at s)
   unfolding wordsType
   wordsType-ok p at s i = option! (p .base)
-    (λ e. option! (combine m (p .words)) (λ z. no!) (λ r z. add-ok m ps r s (combine-scalar m (p .words) .is r z) i)) (λ n e. got! i)
+      (λ e. option! (combine m (p .words)) (λ z. no!) (λ r z. add-ok m ps r s (combine-scalar m (p .words) .is r z) i)) (λ n e. got! i)
 
   baseType-ok : (p : Specifiers) (at : ℕ) (s : State) → Inv m ps (s .table) → On m ps (baseType m p at s)
   unfolding baseType
@@ -255,27 +257,26 @@ module _ (m : Model) (ps : List Pend) where
   addFunction-ok : (r : Option ℕ) (v : Bool) (e : Span) (s : State) → Inv m ps (s .table) → On m ps (addFunction r v e s)
   unfolding addFunction
   addFunction-ok r v e s i = option! (equalRow (s .table) (function r v e) 0 (s .table .rows))
-    (λ z. then! (pushRow-ok m ps (function r v e) s (function-plain r v e) i) λ x h. got! h) (λ n z. got! i)
+      (λ z. then! (pushRow-ok m ps (function r v e) s (function-plain r v e) i) λ x h. got! h) (λ n z. got! i)
 
   apply-ok : (xs : List DeclaratorStep) (b : ℕ) (s : State) → Inv m ps (s .table) → On m ps (apply xs b s)
   unfolding apply
   apply-ok [] b s i = got! i
   apply-ok (pointerStep q ∷ xs) b s i =
-    then! (add-ok m ps (pointer b) s (pointer-plain b) i) λ p h. then! (qualify-ok q (p .0) (p .1) h) λ r k. apply-ok xs (r .0) (r .1) k
+      then! (add-ok m ps (pointer b) s (pointer-plain b) i) λ p h. then! (qualify-ok q (p .0) (p .1) h) λ r k. apply-ok xs (r .0) (r .1) k
   apply-ok (arrayStep n ∷ xs) b s i = bool! (eqb (resolvedKind (s .table) b) voidKind) no! (then! (add-ok m ps (array b n) s (array-plain b n) i) λ r h. apply-ok xs (r .0) (r .1) h)
   apply-ok (functionStep v e ∷ xs) b s i = bool! (eqb (resolvedKind (s .table) b) arrayKind || eqb (resolvedKind (s .table) b) functionKind) no!
-    (then! (addFunction-ok (returned (s .table) b) v e s i) λ r h. apply-ok xs (r .0) (r .1) h)
+      (then! (addFunction-ok (returned (s .table) b) v e s i) λ r h. apply-ok xs (r .0) (r .1) h)
 
   adjusted-ok : (at b : ℕ) (s : State) → Inv m ps (s .table) → On m ps (adjusted at b s)
   unfolding adjusted
   adjusted-ok at b s i = bool! (eqb (resolvedKind (s .table) b) arrayKind) (add-ok m ps _ s (pointer-plain _) i)
-    (bool! (eqb (resolvedKind (s .table) b) functionKind) (add-ok m ps (pointer b) s (pointer-plain b) i)
+      (bool! (eqb (resolvedKind (s .table) b) functionKind) (add-ok m ps (pointer b) s (pointer-plain b) i)
       (bool! (eqb (resolvedKind (s .table) b) voidKind) no! (got! i)))
 
 -- ---- the readers of a level
 
 module _ (ts : Tokens) (m : Model) (next : Levels) (ok : LevelsOk m next) (ps : List Pend) where
-
   taggedType-ok : (k : ℕ) (s : State) → Inv m ps (s .table) → On m ps (taggedType ts m next k s)
   unfolding taggedType
   taggedType-ok k s i = bool! (eqb k enumWord) (ok .enumeration ps s i) (ok .composite ps (eqb k unionWord) s i)
@@ -284,14 +285,14 @@ module _ (ts : Tokens) (m : Model) (next : Levels) (ok : LevelsOk m next) (ps : 
   unfolding specifiersFrom
   specifiersFrom-ok zero p s i = got! i
   specifiersFrom-ok (suc f) p s i = let k = kindAt ts (s .at) in
-    bool! (isWord k)
+      bool! (isWord k)
       (bool! (isStorageWord k) (specifiersFrom-ok f (storing p (storageOf k)) (skip s) i)
       (bool! (isQualifierWord k) (specifiersFrom-ok f (qualifying p (withQualifier k (p .qualifiers))) (skip s) i)
       (bool! (isIgnoredWord k) (specifiersFrom-ok f p (skip s) i)
       (bool! (isTypeWord k) (bool! (isSome (p .base)) no! (specifiersFrom-ok f (wording p k) (skip s) i))
       (bool! (isTagWord k)
-        (bool! (namesType p) no! (then! (taggedType-ok k (skip s) i) λ b h. specifiersFrom-ok f (basedOn p (b .0)) (b .1) h))
-        (bool! (namesType p) (got! i) (then! (namedType-ok m ps ts s i) λ b h. specifiersFrom-ok f (basedOn p (b .0)) (skip (b .1)) h)))))))
+      (bool! (namesType p) no! (then! (taggedType-ok k (skip s) i) λ b h. specifiersFrom-ok f (basedOn p (b .0)) (b .1) h))
+      (bool! (namesType p) (got! i) (then! (namedType-ok m ps ts s i) λ b h. specifiersFrom-ok f (basedOn p (b .0)) (skip (b .1)) h)))))))
       (bool! (eqb k attribute) no! (got! i))
 
   specifiers-ok : (s : State) → Inv m ps (s .table) → On m ps (specifiers ts m next s)
@@ -308,9 +309,9 @@ module _ (ts : Tokens) (m : Model) (next : Levels) (ok : LevelsOk m next) (ps : 
   unfolding starsFrom
   stars-ok zero n qs s i = got! i
   stars-ok (suc f) n qs s i = bool! (stands ts star s)
-    (then! (oneMore-ok (n + length qs) (skip s) i) λ s₁ h. stars-ok f n (qualifiersHere ts s₁ .0 ∷ qs) (qualifiersHere ts s₁ .1)
+      (then! (oneMore-ok (n + length qs) (skip s) i) λ s₁ h. stars-ok f n (qualifiersHere ts s₁ .0 ∷ qs) (qualifiersHere ts s₁ .1)
       (subst (λ t. Inv m ps t) (sym (qualifiers-same ts (suc (left ts (s₁ .at))) _ s₁)) h))
-    (got! i)
+      (got! i)
 
   constantBound-ok : (s : State) → Inv m ps (s .table) → On m ps (constantBound ts m next s)
   unfolding constantBound
@@ -319,12 +320,12 @@ module _ (ts : Tokens) (m : Model) (next : Levels) (ok : LevelsOk m next) (ps : 
   arrayBound-ok : (s : State) → Inv m ps (s .table) → On m ps (arrayBound ts m next s)
   unfolding arrayBound
   arrayBound-ok s₀ i₀ = let s = boundWords ts (suc (left ts (s₀ .at))) s₀ in let i = subst (λ t. Inv m ps t) (sym (bound-same ts (suc (left ts (s₀ .at))) s₀)) i₀ in
-    bool! (stands ts closeBracket s) (got! i) (bool! (stands ts star s) (then! (any! (needed ts closeBracket (skip s))) λ x u. no!) (constantBound-ok s i))
+      bool! (stands ts closeBracket s) (got! i) (bool! (stands ts star s) (then! (any! (needed ts closeBracket (skip s))) λ x u. no!) (constantBound-ok s i))
 
   parameter-ok : (s : State) → Inv m ps (s .table) → Every (λ (x : ℕ × ℕ × State). Inv m ps (x .2 .table)) (parameter ts m next s)
   unfolding parameter
   parameter-ok s i = then! (specifiers-ok s i) λ p h. then! (baseType-ok m ps (p .0) (s .at) (p .1) h) λ b k. then! (ok .declarator ps 0 (b .1) k) λ d g.
-    then! (apply-ok m ps (d .0 .steps) (b .0) (d .1) g) λ r f. got! f
+      then! (apply-ok m ps (d .0 .steps) (b .0) (d .1) g) λ r f. got! f
 
   parametersEnd-ok : (v : Bool) (first n : ℕ) (s : State) → Inv m ps (s .table) → On m ps (parametersEnd ts m next v first n s)
   unfolding parametersEnd
@@ -334,9 +335,9 @@ module _ (ts : Tokens) (m : Model) (next : Levels) (ok : LevelsOk m next) (ps : 
   unfolding parametersFrom
   parametersFrom-ok zero first n s i = parametersEnd-ok false first n s i
   parametersFrom-ok (suc f) first n s i = bool! (stands ts ellipsis s) (parametersEnd-ok true first n (skip s) i)
-    (then! (parameter-ok s i) λ p h. bool! (isVoidList ts n (p .1) (p .0) (p .2)) (parametersEnd-ok false first n (p .2) h)
+      (then! (parameter-ok s i) λ p h. bool! (isVoidList ts n (p .1) (p .0) (p .2)) (parametersEnd-ok false first n (p .2) h)
       (then! (adjusted-ok m ps (s .at) (p .0) (p .2) h) λ a k. then! (pushParameter-ok m ps (record { row = markOf first; type = a .0; name = p .1 }) (a .1) k) λ e g.
-        bool! (stands ts comma (e .1)) (parametersFrom-ok f first (suc n) (skip (e .1)) g) (parametersEnd-ok false first (suc n) (e .1) g)))
+      bool! (stands ts comma (e .1)) (parametersFrom-ok f first (suc n) (skip (e .1)) g) (parametersEnd-ok false first (suc n) (e .1) g)))
 
   parameters-ok : (s : State) → Inv m ps (s .table) → On m ps (parameters ts m next s)
   unfolding parameters
@@ -346,8 +347,8 @@ module _ (ts : Tokens) (m : Model) (next : Levels) (ok : LevelsOk m next) (ps : 
   unfolding suffixesFrom
   suffixesFrom-ok zero n d s i = got! i
   suffixesFrom-ok (suc f) n d s i = bool! (stands ts openBracket s)
-    (then! (oneMore-ok (n + length (d .steps)) (skip s) i) λ s₁ h. then! (arrayBound-ok s₁ h) λ b k. suffixesFrom-ok f n (withStep d (arrayStep (b .0))) (b .1) k)
-    (bool! (stands ts openParen s)
+      (then! (oneMore-ok (n + length (d .steps)) (skip s) i) λ s₁ h. then! (arrayBound-ok s₁ h) λ b k. suffixesFrom-ok f n (withStep d (arrayStep (b .0))) (b .1) k)
+      (bool! (stands ts openParen s)
       (then! (oneMore-ok (n + length (d .steps)) (skip s) i) λ s₁ h. then! (parameters-ok s₁ h) λ p k. suffixesFrom-ok f n (withStep d (p .0)) (p .1) k)
       (got! i))
 
@@ -358,7 +359,7 @@ module _ (ts : Tokens) (m : Model) (next : Levels) (ok : LevelsOk m next) (ps : 
   direct-ok : (n : ℕ) (s : State) → Inv m ps (s .table) → On m ps (direct₁ ts m next n s)
   unfolding direct₁
   direct-ok n s i = bool! (isName (kindAt ts (s .at))) (suffixes-ok n (named (numberAt ts (s .at))) (skip s) i)
-    (bool! (opensDeclarator ts m s)
+      (bool! (opensDeclarator ts m s)
       (then! (ok .declarator ps n (skip s) i) λ d h. then! (needed-ok m ps ts closeParen (d .1) h) λ s′ k. suffixes-ok n (d .0) s′ k)
       (suffixes-ok n unnamed s i))
 
@@ -378,15 +379,15 @@ module _ (ts : Tokens) (m : Model) (next : Levels) (ok : LevelsOk m next) (ps : 
   memberDeclarator-ok : (first b : ℕ) (s : State) → Inv m ps (s .table) → To m ps (memberDeclarator ts m next first b s)
   unfolding memberDeclarator
   memberDeclarator-ok first b s i = bool! (stands ts colon s)
-    (then! (bitWidth-ok (s .at) s i) λ w h. then! (fresh-ok first b noName (w .0) (s .at) (w .1) h) λ e k. got! k)
-    (then! (ok .declarator ps 0 s i) λ d h. then! (apply-ok m ps (d .0 .steps) b (d .1) h) λ r k. then! (bitWidth-ok (s .at) (r .1) k) λ w g.
+      (then! (bitWidth-ok (s .at) s i) λ w h. then! (fresh-ok first b noName (w .0) (s .at) (w .1) h) λ e k. got! k)
+      (then! (ok .declarator ps 0 s i) λ d h. then! (apply-ok m ps (d .0 .steps) b (d .1) h) λ r k. then! (bitWidth-ok (s .at) (r .1) k) λ w g.
       bool! (eqb (d .0 .name) noName) no! (then! (fresh-ok first (r .0) (d .0 .name) (w .0) (s .at) (w .1) g) λ e f. got! f))
 
   memberDeclarators-ok : (f first b : ℕ) (s : State) → Inv m ps (s .table) → To m ps (memberDeclarators ts m next f first b s)
   unfolding memberDeclarators
   memberDeclarators-ok zero first b s i = no!
   memberDeclarators-ok (suc f) first b s i = then! (memberDeclarator-ok first b s i) λ s₁ h.
-    bool! (stands ts comma s₁) (memberDeclarators-ok f first b (skip s₁) h) (needed-ok m ps ts semicolon s₁ h)
+      bool! (stands ts comma s₁) (memberDeclarators-ok f first b (skip s₁) h) (needed-ok m ps ts semicolon s₁ h)
 
   anonymousMember-ok : (first b at : ℕ) (s : State) → Inv m ps (s .table) → To m ps (anonymousMember ts m next first b at s)
   unfolding anonymousMember
@@ -395,15 +396,15 @@ module _ (ts : Tokens) (m : Model) (next : Levels) (ok : LevelsOk m next) (ps : 
   memberDeclaration-ok : (first : ℕ) (s : State) → Inv m ps (s .table) → To m ps (memberDeclaration ts m next first s)
   unfolding memberDeclaration
   memberDeclaration-ok first s i = then! (specifiers-ok s i) λ p h. bool! (eqb (storageNumber (p .0 .storage)) (storageNumber noStorage))
-    (then! (baseType-ok m ps (p .0) (s .at) (p .1) h) λ b k. bool! (stands ts semicolon (b .1)) (anonymousMember-ok first (b .0) (s .at) (skip (b .1)) k)
+      (then! (baseType-ok m ps (p .0) (s .at) (p .1) h) λ b k. bool! (stands ts semicolon (b .1)) (anonymousMember-ok first (b .0) (s .at) (skip (b .1)) k)
       (memberDeclarators-ok (suc (left ts (s .at))) first (b .0) (b .1) k))
-    no!
+      no!
 
   members-ok : (f first : ℕ) (s : State) → Inv m ps (s .table) → To m ps (membersFrom ts m next f first s)
   unfolding membersFrom
   members-ok zero first s i = no!
   members-ok (suc f) first s i = bool! (stands ts closeBrace s) (got! i) (bool! (stands ts end s) no! (bool! (stands ts semicolon s) (members-ok f first (skip s) i)
-    (then! (memberDeclaration-ok first s i) λ s₁ h. members-ok f first s₁ h)))
+      (then! (memberDeclaration-ok first s i) λ s₁ h. members-ok f first s₁ h)))
 
 -- ---- bodies
 
@@ -412,8 +413,8 @@ Laid : Model → List Pend → Bool → Body → Table → Type 0
 Laid m ps u b t = Inv m ps t × (T (orderly (t .log)) → Closing m (tab (t .rows) (t .members)) (b .fields .first) u (b .size))
 
 laid-ok : (m : Model) (ps : List Pend) (u : Bool) (first : ℕ) (l : ℕ × List Member) (t : Table) (n : Bool) → not u || noneWide m t (markOf first) (drop first (t .members)) ≡ n
-  → Inv m ps t → Placed m t u first l
-  → Laid m ps u (laidBody first (l .0) (fieldsOnly first (l .1))) (withMembers (noted n t) (fieldsOnly first (l .1)))
+    → Inv m ps t → Placed m t u first l
+    → Laid m ps u (laidBody first (l .0) (fieldsOnly first (l .1))) (withMembers (noted n t) (fieldsOnly first (l .1)))
 unfolding Laid noted
 laid-ok m ps u first l t true z i p = (record { names = i .names; kept = λ h. laid-kept m t u first l p (i .kept h) }, λ h. laid-closing m t u first l p (T-is z))
 laid-ok m ps u first l t false z i p = (record { names = noted-ok m ps false t i .names; kept = λ h. wide-never (t .log) h }, λ h. wide-never (t .log) h)
@@ -423,23 +424,21 @@ abbrev pub Named : Tokens → Type 0
 Named ts = (i : ℕ) → T (isName (kindAt ts i)) → numberAt ts i ≢ noName
 
 module _ (ts : Tokens) (m : Model) (next : Levels) (ok : LevelsOk m next) where
-
   body-ok : (ps : List Pend) (u : Bool) (at : ℕ) (s : State) → Inv m ps (s .table) → Every (λ (x : Body × State). Laid m ps u (x .0) (x .1 .table)) (body ts m next u at s)
   unfolding body
   body-ok ps u at s i = let first = length (s .table .members) in
-    then! (members-ok ts m next ok ps (suc (left ts (s .at))) first s i) λ s₁ h. then! (layout-ok m (s₁ .table) u first at) λ l p.
-    got! (laid-ok m ps u first l (s₁ .table) _ refl h p)
+      then! (members-ok ts m next ok ps (suc (left ts (s .at))) first s i) λ s₁ h. then! (layout-ok m (s₁ .table) u first at) λ l p.
+      got! (laid-ok m ps u first l (s₁ .table) _ refl h p)
 
   module _ (ps : List Pend) where
-
     tagged-ok : (u : Bool) (w at : ℕ) (s : State) → w ≢ noName → Inv m ps (s .table) → On m ps (taggedComposite ts m next u w at s)
     unfolding taggedComposite Laid
     tagged-ok u w at s d i = then! (tagRow-ok m ps u w s i) λ r h. bool! (stands ts openBrace (r .1))
-      (let x : Pend = (u, w, r .0) in
-       then! (body-ok (x ∷ ps) u at (skip (r .1)) (push-tag m ps x (r .1 .table) (h .1) (h .0))) λ b k.
-       let back = pop-tag m ps x (b .1 .table) (k .0) in
-       got! (define-ok m ps u w (r .0) (b .0) (b .1) d (back .1) (k .1) (back .0)))
-      (got! (h .0))
+        (let x : Pend = (u, w, r .0) in
+        then! (body-ok (x ∷ ps) u at (skip (r .1)) (push-tag m ps x (r .1 .table) (h .1) (h .0))) λ b k.
+        let back = pop-tag m ps x (b .1 .table) (k .0) in
+        got! (define-ok m ps u w (r .0) (b .0) (b .1) d (back .1) (k .1) (back .0)))
+        (got! (h .0))
 
     untagged-ok : (u : Bool) (at : ℕ) (s : State) → Inv m ps (s .table) → On m ps (untaggedComposite ts m next u at s)
     unfolding untaggedComposite Laid
@@ -458,19 +457,19 @@ module _ (ts : Tokens) (m : Model) (next : Levels) (ok : LevelsOk m next) where
     enumerator-ok : (first : ℕ) (v : ℤ) (s : State) → Inv m ps (s .table) → On m ps (enumerator ts m next first v s)
     unfolding enumerator
     enumerator-ok first v s i = bool! (isName (kindAt ts (s .at)))
-      (then! (enumeratorValue-ok v (skip s) i) λ x h. then! (any! (ranged (s .at) (x .0))) λ y u. then! (pushValue-ok m ps _ (x .1) h) λ e k. got! k) no!
+        (then! (enumeratorValue-ok v (skip s) i) λ x h. then! (any! (ranged (s .at) (x .0))) λ y u. then! (pushValue-ok m ps _ (x .1) h) λ e k. got! k) no!
 
     enumerators-ok : (f first : ℕ) (v : ℤ) (s : State) → Inv m ps (s .table) → To m ps (enumeratorsFrom ts m next f first v s)
     unfolding enumeratorsFrom
     enumerators-ok zero first v s i = no!
     enumerators-ok (suc f) first v s i = bool! (stands ts closeBrace s) (got! i)
-      (then! (enumerator-ok first v s i) λ e h. bool! (stands ts comma (e .1)) (enumerators-ok f first (sucℤ (e .0)) (skip (e .1)) h) (needed-ok m ps ts closeBrace (e .1) h))
+        (then! (enumerator-ok first v s i) λ e h. bool! (stands ts comma (e .1)) (enumerators-ok f first (sucℤ (e .0)) (skip (e .1)) h) (needed-ok m ps ts closeBrace (e .1) h))
 
     enumBody-ok : (w : ℕ) (s : State) → Inv m ps (s .table) → On m ps (enumBody ts m next w s)
     unfolding enumBody
     enumBody-ok w s i = let first = length (s .table .values) in
-      then! (enumerators-ok (suc (left ts (s .at))) first (pos 0) s i) λ s₁ h.
-      closeEnum-ok m ps w (enumBytes m (drop first (s₁ .table .values))) (valuesSince first (s₁ .table)) s₁ h
+        then! (enumerators-ok (suc (left ts (s .at))) first (pos 0) s i) λ s₁ h.
+        closeEnum-ok m ps w (enumBytes m (drop first (s₁ .table .values))) (valuesSince first (s₁ .table)) s₁ h
 
     afterTag-ok : (w at : ℕ) (s : State) → Inv m ps (s .table) → On m ps (afterTag ts m next w at s)
     unfolding afterTag
@@ -483,7 +482,6 @@ module _ (ts : Tokens) (m : Model) (next : Levels) (ok : LevelsOk m next) where
 -- ---- all levels
 
 module _ (ts : Tokens) (m : Model) (names : Named ts) where
-
   constant-ok : (ps : List Pend) (s : State) → Inv m ps (s .table) → On m ps (constantHere ts s)
   unfolding constantHere
   constant-ok ps s i = then! (any! (constant ts (λ w. valueNamed w (s .table .values)) (s .at))) λ r u. got! i
@@ -492,11 +490,12 @@ module _ (ts : Tokens) (m : Model) (names : Named ts) where
   unfolding levels
   levels-ok zero = record { composite = λ ps u s i. no!; enumeration = λ ps s i. no!; declarator = λ ps n s i. no!; direct = λ ps n s i. no!; constant = λ ps s i. no! }
   levels-ok (suc d) = let ok = levels-ok d in record {
-      composite = λ ps u s i. composite-ok ts m (levels ts m d) ok ps names u s i
-    ; enumeration = λ ps s i. enumeration-ok ts m (levels ts m d) ok ps s i
-    ; declarator = λ ps n s i. declarator-ok ts m (levels ts m d) ok ps n s i
-    ; direct = λ ps n s i. direct-ok ts m (levels ts m d) ok ps n s i
-    ; constant = λ ps s i. constant-ok ps s i }
+    composite = λ ps u s i. composite-ok ts m (levels ts m d) ok ps names u s i;
+    enumeration = λ ps s i. enumeration-ok ts m (levels ts m d) ok ps s i;
+    declarator = λ ps n s i. declarator-ok ts m (levels ts m d) ok ps n s i;
+    direct = λ ps n s i. direct-ok ts m (levels ts m d) ok ps n s i;
+    constant = λ ps s i. constant-ok ps s i;
+  }
 
   inner-ok : LevelsOk m (inner ts m)
   inner-ok = levels-ok (maxDepth - 1)
@@ -506,7 +505,7 @@ module _ (ts : Tokens) (m : Model) (names : Named ts) where
   typedef-ok : (w b at : ℕ) (s : State) → Inv m [] (s .table) → On m [] (defineTypedef w b at s)
   unfolding defineTypedef
   typedef-ok w b at s i = option! (typedefRow (s .table) w) (λ e. pushRow-ok m [] (typedef w b) s (typedef-plain w b) i)
-    (λ n e. bool! (eqb (targetOf (rowAt (s .table) n)) b) (got! i) no!)
+      (λ n e. bool! (eqb (targetOf (rowAt (s .table) n)) b) (got! i) no!)
 
   declaredRow-ok : (c : Storage) (w b at : ℕ) (s : State) → Inv m [] (s .table) → On m [] (declaredRow c w b at s)
   unfolding declaredRow
@@ -519,7 +518,7 @@ module _ (ts : Tokens) (m : Model) (names : Named ts) where
   initDeclarator-ok : (c : Storage) (b : ℕ) (s : State) → Inv m [] (s .table) → To m [] (initDeclarator ts m c b s)
   unfolding initDeclarator
   initDeclarator-ok c b s i = then! (inner-ok .declarator [] 0 s i) λ d h. then! (apply-ok m [] (d .0 .steps) b (d .1) h) λ r k. bool! (eqb (d .0 .name) noName) no!
-    (then! (declaredRow-ok c (d .0 .name) (r .0) (s .at) (initialiser ts (r .1)) (subst (λ t. Inv m [] t) (sym (initialiser-same ts (r .1))) k)) λ n g.
+      (then! (declaredRow-ok c (d .0 .name) (r .0) (s .at) (initialiser ts (r .1)) (subst (λ t. Inv m [] t) (sym (initialiser-same ts (r .1))) k)) λ n g.
       declare-ok c (n .0) (d .0 .name) (n .1) g)
 
   initDeclarators-ok : (f : ℕ) (c : Storage) (b : ℕ) (s : State) → Inv m [] (s .table) → To m [] (initDeclarators ts m f c b s)
@@ -530,7 +529,7 @@ module _ (ts : Tokens) (m : Model) (names : Named ts) where
   declaration-ok : (s : State) → Inv m [] (s .table) → To m [] (declaration ts m s)
   unfolding declaration
   declaration-ok s i = then! (specifiers-ok ts m (inner ts m) inner-ok [] s i) λ p h. then! (baseType-ok m [] (p .0) (s .at) (p .1) h) λ b k.
-    bool! (stands ts semicolon (b .1) || stands ts end (b .1)) (bool! (isTypedef (p .0 .storage)) no! (declare-ok (p .0 .storage) (b .0) noName (b .1) k))
+      bool! (stands ts semicolon (b .1) || stands ts end (b .1)) (bool! (isTypedef (p .0 .storage)) no! (declare-ok (p .0 .storage) (b .0) noName (b .1) k))
       (initDeclarators-ok (suc (left ts (s .at))) (p .0 .storage) (b .0) (b .1) k)
 
   separated-ok : (s : State) → Inv m [] (s .table) → To m [] (separated ts m s)
@@ -541,19 +540,22 @@ module _ (ts : Tokens) (m : Model) (names : Named ts) where
   unfolding declarationsFrom
   declarations-ok zero s i = got! i
   declarations-ok (suc f) s i = bool! (stands ts end s) (got! i) (bool! (stands ts semicolon s) (declarations-ok f (skip s) i)
-    (then! (declaration-ok s i) λ s₁ h. then! (separated-ok s₁ h) λ s₂ k. declarations-ok f s₂ k))
+      (then! (declaration-ok s i) λ s₁ h. then! (separated-ok s₁ h) λ s₂ k. declarations-ok f s₂ k))
 
   empty : Inv m [] newTable
   unfolding Pending viewOf
   empty = record {
-      names = record { someRow = omega arith; few = omega arith; first = refl; pending = tt; bodies = λ n u w z e d. none-there n e; enums = λ n w z e d. none-listed n e }
-    ; kept = λ h. record { edge = λ n z. void-all n; owned = λ k e g. absurd (Option·none-ne-some e g); ordered = λ j k d e l g. absurd (Option·none-ne-some d g) } }
+    names = record { someRow = omega arith; few = omega arith; first = refl; pending = tt; bodies = λ n u w z e d. none-there n e; enums = λ n w z e d. none-listed n e };
+    kept = λ h. record { edge = λ n z. void-all n; owned = λ k e g. absurd (Option·none-ne-some e g); ordered = λ j k d e l g. absurd (Option·none-ne-some d g) };
+  }
     where
       void-all : (n : ℕ) → getD (void ∷ []) n void ≡ void
       void-all zero = refl
       void-all (suc n) = refl
+
       none-there : {X : Type 0} {u : Bool} {w z : ℕ} (n : ℕ) → viewOf (getD (void ∷ []) n void) ≡ composed u w (some z) → X
       none-there n e = not-other (sym (ap viewOf (void-all n)) ∙ e)
+
       none-listed : {X : Type 0} {w z : ℕ} (n : ℕ) → viewOf (getD (void ∷ []) n void) ≡ listed w z → X
       none-listed n e = not-listed (sym (ap viewOf (void-all n)) ∙ e)
 

@@ -71,8 +71,8 @@ howMany ts = length (ts .kinds)
 
 unfoldable pub isOrderly : Tokens → Bool
 isOrderly ts =
-  everyBelow (howMany ts) (λ i. everyBelow i (λ j. not (opensBody ts i && (opensBody ts j && sameTag ts i j))))
-  && everyBelow (howMany ts) (λ i. everyBelow (howMany ts) (λ j. not (usesEnum ts i && (opensBody ts j && sameTag ts i j)) || closedBefore ts j i))
+    everyBelow (howMany ts) (λ i. everyBelow i (λ j. not (opensBody ts i && (opensBody ts j && sameTag ts i j))))
+    && everyBelow (howMany ts) (λ i. everyBelow (howMany ts) (λ j. not (usesEnum ts i && (opensBody ts j && sameTag ts i j)) || closedBefore ts j i))
 
 -- "A union bit-field is held against 8 times its type's size at the moment the union's layout takes it": what the layout noted
 unfoldable pub noneTooWide : List Event → Bool

@@ -97,11 +97,11 @@ skipped = "struct S{int a;};int x=struct S{1};"
 -- those on the text only.
 needed :
     ((orderlyText twoBodies ≡ false) × (noneTooWide (table twoBodies .log) ≡ true) × (Walks lp64 (table twoBodies) → ⊥))
-  × ((orderlyText earlyEnum ≡ false) × (noneTooWide (table earlyEnum .log) ≡ true) × (Walks lp64 (table earlyEnum) → ⊥))
-  × ((orderlyText wideField ≡ true) × (noneTooWide (table wideField .log) ≡ false) × (Walks lp64 (table wideField) → ⊥))
-  × ((orderlyText ordinary ≡ true) × (orderly (table ordinary .log) ≡ true) × (Walk.walk lp64 (table ordinary) 5 (member 3 ∷ index 2 ∷ []) ≡ some (value 2 128)))
-  × ((orderlyText inside ≡ false) × (orderly (table inside .log) ≡ false))
-  × ((orderlyText skipped ≡ false) × (orderly (table skipped .log) ≡ true))
+    × ((orderlyText earlyEnum ≡ false) × (noneTooWide (table earlyEnum .log) ≡ true) × (Walks lp64 (table earlyEnum) → ⊥))
+    × ((orderlyText wideField ≡ true) × (noneTooWide (table wideField .log) ≡ false) × (Walks lp64 (table wideField) → ⊥))
+    × ((orderlyText ordinary ≡ true) × (orderly (table ordinary .log) ≡ true) × (Walk.walk lp64 (table ordinary) 5 (member 3 ∷ index 2 ∷ []) ≡ some (value 2 128)))
+    × ((orderlyText inside ≡ false) × (orderly (table inside .log) ≡ false))
+    × ((orderlyText skipped ≡ false) × (orderly (table skipped .log) ≡ true))
 unfolding tableOf tokensOf Condition.opensBody Condition.usesEnum Condition.openedAfter Condition.everyBelow Condition.isOrderly Condition.noneTooWide
     Condition.hasBody Condition.hasUse Condition.orderly Walk.shapeBy Walk.shapeWithin Walk.step Walk.walkFrom
     Answer._>>=_ Text.bytes Text.same Kind.isName Kind.isWord Name.nameOf Name.offsetOf Name.lengthOf Token.columns Token.here Token.need Model.lp64
@@ -147,8 +147,11 @@ unfolding tableOf tokensOf Condition.opensBody Condition.usesEnum Condition.open
     Cut.numberWord Cut.cutNumber Cut.cutCharacter Cut.cutString Cut.cutMark Cut.cutToken Cut.cutDirective Cut.cutComment Cut.cutOther Cut.cutNext
     Cut.cutAll Cut.cut Cut.aboveAscii Cut.checkBytes Cut.tokenize NameTable.heldNames NameTable.isHeld NameTable.namesAmong NameTable.nameTable
     Entry.parse Entry.readWith Entry.read Entry.told Entry.outcome
-needed =
-    ((refl, refl, λ w. (let h : 32 ≤ 16 = w .inside 3 2 refl (member 1 ∷ []) (value 1 0) refl in omega arith))
-  , (refl, refl, λ w. (let h : 64 ≤ 32 = w .inside 2 4 refl (member 0 ∷ []) (value 1 0) refl in omega arith))
-  , (refl, refl, λ w. (let h : 9 ≤ 8 = w .inside 2 1 refl (member 0 ∷ []) (bits 0 9) refl in omega arith))
-  , (refl, refl, refl), (refl, refl), (refl, refl))
+needed = (
+  (refl, refl, λ w. (let h : 32 ≤ 16 = w .inside 3 2 refl (member 1 ∷ []) (value 1 0) refl in omega arith)),
+  (refl, refl, λ w. (let h : 64 ≤ 32 = w .inside 2 4 refl (member 0 ∷ []) (value 1 0) refl in omega arith)),
+  (refl, refl, λ w. (let h : 9 ≤ 8 = w .inside 2 1 refl (member 0 ∷ []) (bits 0 9) refl in omega arith)),
+  (refl, refl, refl),
+  (refl, refl),
+  (refl, refl),
+)

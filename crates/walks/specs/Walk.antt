@@ -21,8 +21,8 @@ use Rattle.definition.specs.Size.{sizeOf}
 pub data Shape : Type 0 where
   whole : Shape
   unsized : Shape
-  elements : ℕ → ℕ → Shape      -- element row, bound
-  fields : ℕ → Bool → Shape     -- the row whose members they are; a union
+  elements : ℕ → ℕ → Shape  -- element row, bound
+  fields : ℕ → Bool → Shape  -- the row whose members they are; a union
 
 abbrev pub arrayShape : ℕ → Option ℕ → Shape
 arrayShape r none = unsized
@@ -59,8 +59,8 @@ pub data Step : Type 0 where
 
 -- Where a walk stands, in bits from its start: at a value of a row's type, or at a bit-field.
 pub data Spot : Type 0 where
-  value : ℕ → ℕ → Spot      -- row, first bit
-  bits : ℕ → ℕ → Spot       -- first bit, width
+  value : ℕ → ℕ → Spot  -- row, first bit
+  bits : ℕ → ℕ → Spot  -- first bit, width
 
 -- the bits of a value of a row: 8 times its size, none for an unsized array
 abbrev pub bitsOf : Model → Table → ℕ → ℕ
@@ -149,5 +149,5 @@ dividesAt t (some (bits b w)) = false
 pub record Walks (m : Model) (t : Table) : Type 0 where
   pub inside : (n s : ℕ) → sizeOf m t n ≡ some s → (xs : List Step) (e : Spot) → walk m t n xs ≡ some e → Inside (placeOf m t e) s
   pub apart : (n s : ℕ) → sizeOf m t n ≡ some s → (before xs ys : List Step) (x y : Step) → x ≢ y → T (dividesAt t (walk m t n before))
-    → (e f : Spot) → walk m t n (before ++ x ∷ xs) ≡ some e → walk m t n (before ++ y ∷ ys) ≡ some f
-    → NoSharedBit (placeOf m t e) (placeOf m t f)
+      → (e f : Spot) → walk m t n (before ++ x ∷ xs) ≡ some e → walk m t n (before ++ y ∷ ys) ≡ some f
+      → NoSharedBit (placeOf m t e) (placeOf m t f)

@@ -74,8 +74,10 @@ same-length c = c .before .before .before .before .before .before .before .befor
 
 returns : tie.Need-returns Inv-loop μ-loop
 unfolding markOf
-returns c = record { of = λ t v h. stop _ _ (stopped (c .before .before .before .before .before .before .before .before .before .before .before .loop .inv .0 t v h) (omega (arith, c .before .before .before .before .before .before .before .before .before .before .loop-test .taken, h .counts .members)) (c .before .before .before .before .before .before .before .before .before .member-row .ensures .of t (h .words)) (c .before .before .before .before .before .before .before .before .if1 .left) (c .before .before .before .before .before .before .before .is-last .ensures .of _ t _ (h .words) (h .counts .members)) (sym (ap (λ z. place z (memberAt t (c .before .before .before .before .before .before .before .before .before .before .before .loop .i))) (c .before .before .before .p .given .1)) ∙ c .before .before .before .before .before .place-member .ensures .of t (h .words) (record { table = _; holds = c .before .before .before .before .before .before .before .before .before .before .before .loop .inv .0 t v h .holds .wides; rows = refl }) (h .counts .members)))
-    (ap (λ z. bad (c .before .before .before .p .given .0 .0) z) (c .member-offset .ensures .of _ (c .before .before .before .before .before .before .before .before .before .before .before .loop .inv .0 t v h .holds .wides) ∙ ap (λ e. e .offset) (untouched (c .before .before .before .before .before .before .before .before .before .before .before .loop .inv .0 t v h) (omega (arith, c .before .before .before .before .before .before .before .before .before .before .loop-test .taken, h .counts .members))))) }
+returns c = record {
+  of = λ t v h. stop _ _ (stopped (c .before .before .before .before .before .before .before .before .before .before .before .loop .inv .0 t v h) (omega (arith, c .before .before .before .before .before .before .before .before .before .before .loop-test .taken, h .counts .members)) (c .before .before .before .before .before .before .before .before .before .member-row .ensures .of t (h .words)) (c .before .before .before .before .before .before .before .before .if1 .left) (c .before .before .before .before .before .before .before .is-last .ensures .of _ t _ (h .words) (h .counts .members)) (sym (ap (λ z. place z (memberAt t (c .before .before .before .before .before .before .before .before .before .before .before .loop .i))) (c .before .before .before .p .given .1)) ∙ c .before .before .before .before .before .place-member .ensures .of t (h .words) (record { table = _; holds = c .before .before .before .before .before .before .before .before .before .before .before .loop .inv .0 t v h .holds .wides; rows = refl }) (h .counts .members)))
+      (ap (λ z. bad (c .before .before .before .p .given .0 .0) z) (c .member-offset .ensures .of _ (c .before .before .before .before .before .before .before .before .before .before .before .loop .inv .0 t v h .holds .wides) ∙ ap (λ e. e .offset) (untouched (c .before .before .before .before .before .before .before .before .before .before .before .loop .inv .0 t v h) (omega (arith, c .before .before .before .before .before .before .before .before .before .before .loop-test .taken, h .counts .members)))));
+}
 
 enum-known-p-2 : tie.Need-enum-known-p-2 Inv-loop μ-loop
 enum-known-p-2 c = search needs
@@ -91,8 +93,10 @@ loop-less-2 c = omega (arith, c .before .before .before .before .before .before 
 
 loop-again-2 : tie.Need-loop-again-2 Inv-loop μ-loop
 unfolding markOf
-loop-again-2 c = (λ t v h. puts (c .before .before .before .before .before .before .before .before .before .before .before .before .before .loop .inv .0 t v h) (omega (arith, c .before .before .before .before .before .before .before .before .before .before .before .before .loop-test .taken, h .counts .members)) (c .before .before .before .before .before .before .before .before .before .before .before .member-row .ensures .of t (h .words)) (c .before .before .before .before .before .before .before .before .before .before .if1 .left) (c .before .before .before .before .before .before .before .before .before .is-last .ensures .of _ t _ (h .words) (h .counts .members)) (sym (ap (λ z. place z (memberAt t (c .before .before .before .before .before .before .before .before .before .before .before .before .before .loop .i))) (c .before .before .before .before .before .p2 .given .1)) ∙ c .before .before .before .before .before .before .before .place-member .ensures .of t (h .words) (record { table = _; holds = c .before .before .before .before .before .before .before .before .before .before .before .before .before .loop .inv .0 t v h .holds .wides; rows = refl }) (h .counts .members)) (c .before .before .set-member-place .ensures),
-    c .before .before .set-member-place .kept .0 ∙ c .before .before .before .before .before .before .before .before .before .before .before .before .before .loop .inv .1)
+loop-again-2 c = (
+  λ t v h. puts (c .before .before .before .before .before .before .before .before .before .before .before .before .before .loop .inv .0 t v h) (omega (arith, c .before .before .before .before .before .before .before .before .before .before .before .before .loop-test .taken, h .counts .members)) (c .before .before .before .before .before .before .before .before .before .before .before .member-row .ensures .of t (h .words)) (c .before .before .before .before .before .before .before .before .before .before .if1 .left) (c .before .before .before .before .before .before .before .before .before .is-last .ensures .of _ t _ (h .words) (h .counts .members)) (sym (ap (λ z. place z (memberAt t (c .before .before .before .before .before .before .before .before .before .before .before .before .before .loop .i))) (c .before .before .before .before .before .p2 .given .1)) ∙ c .before .before .before .before .before .before .before .place-member .ensures .of t (h .words) (record { table = _; holds = c .before .before .before .before .before .before .before .before .before .before .before .before .before .loop .inv .0 t v h .holds .wides; rows = refl }) (h .counts .members)) (c .before .before .set-member-place .ensures),
+  c .before .before .set-member-place .kept .0 ∙ c .before .before .before .before .before .before .before .before .before .before .before .before .before .loop .inv .1,
+)
 
 same-length-2 : tie.Need-same-length-2 Inv-loop μ-loop
 same-length-2 c = c .before .loop .inv .1

@@ -42,8 +42,10 @@ in-union-requires : tie.Need-in-union-requires
 in-union-requires c κs = search needs
 
 returns : tie.Need-returns
-returns c = record { of = λ t h x e. in-union _ t _ _ (memberAt t (c .before .before .before .before .before .before .before .before .before .before .before .before .args .i)) _ (c .before .before .before .before .before .before .before .before .before .member-type .ensures .of t h) (c .before .before .before .before .before .before .before .before .member-size .ensures .of t h x (memberAt t (c .before .before .before .before .before .before .before .before .before .before .before .before .args .i) .offset)) (ap (λ z. bytes z (memberAt t (c .before .before .before .before .before .before .before .before .before .before .before .before .args .i) .offset)) (c .before .before .before .before .before .before .b2 .given .1))
-    (c .before .before .before .or-one .ensures ∙ ap orOne (c .before .before .before .before .align-of .ensures .of t h x e)) (c .before .if1 .taken) (c .in-union .ensures (memberAt t (c .before .before .before .before .before .before .before .before .before .before .before .before .args .i)) (c .before .before .member-width .ensures .of t h)) }
+returns c = record {
+  of = λ t h x e. in-union _ t _ _ (memberAt t (c .before .before .before .before .before .before .before .before .before .before .before .before .args .i)) _ (c .before .before .before .before .before .before .before .before .before .member-type .ensures .of t h) (c .before .before .before .before .before .before .before .before .member-size .ensures .of t h x (memberAt t (c .before .before .before .before .before .before .before .before .before .before .before .before .args .i) .offset)) (ap (λ z. bytes z (memberAt t (c .before .before .before .before .before .before .before .before .before .before .before .before .args .i) .offset)) (c .before .before .before .before .before .before .b2 .given .1))
+      (c .before .before .before .or-one .ensures ∙ ap orOne (c .before .before .before .before .align-of .ensures .of t h x e)) (c .before .if1 .taken) (c .in-union .ensures (memberAt t (c .before .before .before .before .before .before .before .before .before .before .before .before .args .i)) (c .before .before .member-width .ensures .of t h));
+}
 
 in-struct-requires : tie.Need-in-struct-requires
 in-struct-requires c κs = search needs
@@ -59,13 +61,17 @@ returns-2 c = record { of = λ t h x e. member-refused _ t _ _ (memberAt t (c .b
 
 returns-3 : tie.Need-returns-3
 unfolding placed·placing
-returns-3 c = record { of = λ t h x e. in-struct _ t _ _ (memberAt t (c .before .before .before .before .before .before .before .before .before .before .before .before .before .before .before .args .i)) _ (c .before .before .before .before .before .before .before .before .before .before .before .before .member-type .ensures .of t h) (c .before .before .before .before .before .before .before .before .before .before .before .member-size .ensures .of t h x (memberAt t (c .before .before .before .before .before .before .before .before .before .before .before .before .before .before .before .args .i) .offset)) (ap (λ z. bytes z (memberAt t (c .before .before .before .before .before .before .before .before .before .before .before .before .before .before .before .args .i) .offset)) (c .before .before .before .before .before .before .before .before .before .b2 .given .1))
-    (c .before .before .before .before .before .before .or-one .ensures ∙ ap orOne (c .before .before .before .before .before .before .before .align-of .ensures .of t h x e)) (c .before .before .before .before .if1 .left) (sym (ap (λ z. placed·placing z (memberAt t (c .before .before .before .before .before .before .before .before .before .before .before .before .before .before .before .args .i))) (c .before .p .given .1)) ∙ c .before .before .before .in-struct .ensures (memberAt t (c .before .before .before .before .before .before .before .before .before .before .before .before .before .before .before .args .i)) (c .before .before .before .before .before .member-width .ensures .of t h)) }
+returns-3 c = record {
+  of = λ t h x e. in-struct _ t _ _ (memberAt t (c .before .before .before .before .before .before .before .before .before .before .before .before .before .before .before .args .i)) _ (c .before .before .before .before .before .before .before .before .before .before .before .before .member-type .ensures .of t h) (c .before .before .before .before .before .before .before .before .before .before .before .member-size .ensures .of t h x (memberAt t (c .before .before .before .before .before .before .before .before .before .before .before .before .before .before .before .args .i) .offset)) (ap (λ z. bytes z (memberAt t (c .before .before .before .before .before .before .before .before .before .before .before .before .before .before .before .args .i) .offset)) (c .before .before .before .before .before .before .before .before .before .b2 .given .1))
+      (c .before .before .before .before .before .before .or-one .ensures ∙ ap orOne (c .before .before .before .before .before .before .before .align-of .ensures .of t h x e)) (c .before .before .before .before .if1 .left) (sym (ap (λ z. placed·placing z (memberAt t (c .before .before .before .before .before .before .before .before .before .before .before .before .before .before .before .args .i))) (c .before .p .given .1)) ∙ c .before .before .before .in-struct .ensures (memberAt t (c .before .before .before .before .before .before .before .before .before .before .before .before .before .before .before .args .i)) (c .before .before .before .before .before .member-width .ensures .of t h));
+}
 
 returns-4 : tie.Need-returns-4
 unfolding placed·placing
-returns-4 c = record { of = λ t h x e. in-struct _ t _ _ (memberAt t (c .before .before .before .before .before .before .before .before .before .before .before .before .before .before .args .i)) _ (c .before .before .before .before .before .before .before .before .before .before .before .member-type .ensures .of t h) (c .before .before .before .before .before .before .before .before .before .before .member-size .ensures .of t h x (memberAt t (c .before .before .before .before .before .before .before .before .before .before .before .before .before .before .args .i) .offset)) (ap (λ z. bytes z (memberAt t (c .before .before .before .before .before .before .before .before .before .before .before .before .before .before .args .i) .offset)) (c .before .before .before .before .before .before .before .before .b2 .given .1))
-    (c .before .before .before .before .before .or-one .ensures ∙ ap orOne (c .before .before .before .before .before .before .align-of .ensures .of t h x e)) (c .before .before .before .if1 .left) (sym (ap (λ z. placed·placing z (memberAt t (c .before .before .before .before .before .before .before .before .before .before .before .before .before .before .args .i))) (c .enum-told .given .1)) ∙ c .before .before .in-struct .ensures (memberAt t (c .before .before .before .before .before .before .before .before .before .before .before .before .before .before .args .i)) (c .before .before .before .before .member-width .ensures .of t h)) }
+returns-4 c = record {
+  of = λ t h x e. in-struct _ t _ _ (memberAt t (c .before .before .before .before .before .before .before .before .before .before .before .before .before .before .args .i)) _ (c .before .before .before .before .before .before .before .before .before .before .before .member-type .ensures .of t h) (c .before .before .before .before .before .before .before .before .before .before .member-size .ensures .of t h x (memberAt t (c .before .before .before .before .before .before .before .before .before .before .before .before .before .before .args .i) .offset)) (ap (λ z. bytes z (memberAt t (c .before .before .before .before .before .before .before .before .before .before .before .before .before .before .args .i) .offset)) (c .before .before .before .before .before .before .before .before .b2 .given .1))
+      (c .before .before .before .before .before .or-one .ensures ∙ ap orOne (c .before .before .before .before .before .before .align-of .ensures .of t h x e)) (c .before .before .before .if1 .left) (sym (ap (λ z. placed·placing z (memberAt t (c .before .before .before .before .before .before .before .before .before .before .before .before .before .before .args .i))) (c .enum-told .given .1)) ∙ c .before .before .in-struct .ensures (memberAt t (c .before .before .before .before .before .before .before .before .before .before .before .before .before .before .args .i)) (c .before .before .before .before .member-width .ensures .of t h));
+}
 
 pub place-member-spec : {M : Type 1} → statement M
 place-member-spec =

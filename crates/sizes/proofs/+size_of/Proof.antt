@@ -18,7 +18,7 @@ use native.Mathlib.Omega.{arith}
 use mathlib.Core.Path.{_≡_, refl, sym, ap, _∙_}
 use borrow.Author.Tests.{not-true, not-false}
 use Rattle.sizes.specs.Measure.{told}
-use Rattle.sizes.proofs.Told.{unknown!}
+use Rattle.sizes.proofs.Told.{unknown! }
 use Rattle.sizes.proofs.Sized.{extent-of, own-sized, not-below, alias-sized, unsized, array-sized}
 
 abbrev μ-size-of : Measures 2 size-of-kinds.ps ℕ
@@ -228,8 +228,10 @@ size-of-returns-3 : (t : ℕ) → size-of-lts.Need-returns-3 (
   times-reads.Asked,
   times-reads.Learnt,
 ) (size-of-at t) size-of.Post
-size-of-returns-3 t c = record { of = λ t₁ h g. c .before .size-of .ensures .of t₁ h g
-    ∙ ap told (sym (alias-sized _ t₁ _ (c .before .before .before .before .before .before .before .before .row-kind .ensures .of t₁ h) (c .before .before .before .row-target .ensures .of t₁ h) (sym (c .before .before .before .before .before .among .ensures) ∙ not-false _ (c .before .before .before .before .if1 .left)) (c .before .before .if2 .left) (c .if3 .taken))) }
+size-of-returns-3 t c = record {
+  of = λ t₁ h g. c .before .size-of .ensures .of t₁ h g
+      ∙ ap told (sym (alias-sized _ t₁ _ (c .before .before .before .before .before .before .before .before .row-kind .ensures .of t₁ h) (c .before .before .before .row-target .ensures .of t₁ h) (sym (c .before .before .before .before .before .among .ensures) ∙ not-false _ (c .before .before .before .before .if1 .left)) (c .before .before .if2 .left) (c .if3 .taken)));
+}
 
 size-of-returns-4 : (t : ℕ) → size-of-lts.Need-returns-4 (
   row-kind-reads.Asked,
@@ -289,8 +291,10 @@ size-of-returns-5 : (t : ℕ) → size-of-lts.Need-returns-5 (
   times-reads.Asked,
   times-reads.Learnt,
 ) (size-of-at t) size-of.Post
-size-of-returns-5 t c = record { of = λ t₁ h g. c .times .ensures .of _ (c .before .before .before .size-of .ensures .of t₁ h g)
-    ∙ ap told (sym (array-sized _ t₁ _ (c .before .before .before .before .before .before .before .before .before .before .row-kind .ensures .of t₁ h) (c .before .before .before .before .before .row-target .ensures .of t₁ h) (sym (c .before .before .before .before .before .before .before .among .ensures) ∙ not-false _ (c .before .before .before .before .before .before .if1 .left)) (c .before .before .before .before .before .before .before .before .before .row-flags .ensures .of t₁ h) (extent-of _ (c .before .before .before .before .before .before .before .before .row-extent .ensures) g) (c .before .before .before .before .if2 .left) (c .before .before .if3 .left) (c .before .if4 .left))) }
+size-of-returns-5 t c = record {
+  of = λ t₁ h g. c .times .ensures .of _ (c .before .before .before .size-of .ensures .of t₁ h g)
+      ∙ ap told (sym (array-sized _ t₁ _ (c .before .before .before .before .before .before .before .before .before .before .row-kind .ensures .of t₁ h) (c .before .before .before .before .before .row-target .ensures .of t₁ h) (sym (c .before .before .before .before .before .before .before .among .ensures) ∙ not-false _ (c .before .before .before .before .before .before .if1 .left)) (c .before .before .before .before .before .before .before .before .before .row-flags .ensures .of t₁ h) (extent-of _ (c .before .before .before .before .before .before .before .before .row-extent .ensures) g) (c .before .before .before .before .if2 .left) (c .before .before .if3 .left) (c .before .if4 .left)));
+}
 
 pub +size-of-spec : {M : Type 1} → statement M
 +size-of-spec = close μ-size-of λ t. size-of-lts.spec (

@@ -9,7 +9,7 @@ use mathlib.Core.Path.{_≡_, refl, sym, ap, _∙_}
 use borrow.Author.Tests.{not-true, not-false}
 use Rattle.words.proofs.Picked.{yes, nay, eq+, eq-}
 use Rattle.sizes.specs.Measure.{told, ownSize}
-use Rattle.sizes.proofs.Told.{known!, unknown!}
+use Rattle.sizes.proofs.Told.{known!, unknown! }
 
 among-requires : tie.Need-among-requires
 among-requires c κs = search needs
@@ -31,18 +31,24 @@ among-requires-2 c κs = search needs
 
 returns-4 : tie.Need-returns-4
 unfolding ownSize
-returns-4 c = record { is = nay told _ _ _ (sym (c .before .before .before .before .before .among .ensures) ∙ c .before .before .before .before .if1 .left) (eq- told _ _ _ _ (c .before .before .before .if2 .left) (eq- told _ _ _ _ (c .before .before .if3 .left)
-    (nay told _ _ _ (sym (c .before .among2 .ensures) ∙ not-true _ (c .if4 .taken)) (unknown! refl)))) }
+returns-4 c = record {
+  is = nay told _ _ _ (sym (c .before .before .before .before .before .among .ensures) ∙ c .before .before .before .before .if1 .left) (eq- told _ _ _ _ (c .before .before .before .if2 .left) (eq- told _ _ _ _ (c .before .before .if3 .left)
+      (nay told _ _ _ (sym (c .before .among2 .ensures) ∙ not-true _ (c .if4 .taken)) (unknown! refl))));
+}
 
 returns-5 : tie.Need-returns-5
 unfolding ownSize
-returns-5 c = record { is = nay told _ _ _ (sym (c .before .before .before .before .before .before .among .ensures) ∙ c .before .before .before .before .before .if1 .left) (eq- told _ _ _ _ (c .before .before .before .before .if2 .left) (eq- told _ _ _ _ (c .before .before .before .if3 .left)
-    (yes told _ _ _ (sym (c .before .before .among2 .ensures) ∙ not-false _ (c .before .if4 .left)) (eq+ told _ _ _ _ (c .if5 .taken) (unknown! refl))))) }
+returns-5 c = record {
+  is = nay told _ _ _ (sym (c .before .before .before .before .before .before .among .ensures) ∙ c .before .before .before .before .before .if1 .left) (eq- told _ _ _ _ (c .before .before .before .before .if2 .left) (eq- told _ _ _ _ (c .before .before .before .if3 .left)
+      (yes told _ _ _ (sym (c .before .before .among2 .ensures) ∙ not-false _ (c .before .if4 .left)) (eq+ told _ _ _ _ (c .if5 .taken) (unknown! refl)))));
+}
 
 returns-6 : tie.Need-returns-6
 unfolding ownSize
-returns-6 c = record { is = nay told _ _ _ (sym (c .before .before .before .before .before .before .among .ensures) ∙ c .before .before .before .before .before .if1 .left) (eq- told _ _ _ _ (c .before .before .before .before .if2 .left) (eq- told _ _ _ _ (c .before .before .before .if3 .left)
-    (yes told _ _ _ (sym (c .before .before .among2 .ensures) ∙ not-false _ (c .before .if4 .left)) (eq- told _ _ _ _ (c .if5 .left) (known! _ (omega arith)))))) }
+returns-6 c = record {
+  is = nay told _ _ _ (sym (c .before .before .before .before .before .before .among .ensures) ∙ c .before .before .before .before .before .if1 .left) (eq- told _ _ _ _ (c .before .before .before .before .if2 .left) (eq- told _ _ _ _ (c .before .before .before .if3 .left)
+      (yes told _ _ _ (sym (c .before .before .among2 .ensures) ∙ not-false _ (c .before .if4 .left)) (eq- told _ _ _ _ (c .if5 .left) (known! _ (omega arith))))));
+}
 
 pub own-size-spec : {M : Type 1} → statement M
 own-size-spec =
