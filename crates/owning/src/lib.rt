@@ -9,7 +9,6 @@ use table::set_parameter_row;
 use table::set_value_row;
 use table::value_row;
 ghost use mathlib.Core.Path.{_≡_};
-ghost use mathlib.Core.Bool.{_&&_, not};
 ghost use Prim.Native.Nat.{ℕ};
 ghost use lib.Dec.{eqb};
 ghost use lib.ListN.{length, drop};
