@@ -1,12 +1,12 @@
 -- The members of a body, laid out one after the other. Assumes nothing.
 use mathlib.Core.Path.{_≡_, refl, sym, ap, _∙_}
 use mathlib.Core.Bool.{Bool, true, false, _&&_}
-use mathlib.Core.Option.{Option, none, some}
+use mathlib.Core.Option.{Option}
 use mathlib.Core.List.{List, [], _∷_, _++_, append-assoc}
 use Prim.Native.Nat.{ℕ, zero, suc, _+_, _^_, _<_, _≤_, max}
 use native.Mathlib.Omega.{arith}
 use native.Mathlib.Numerals.{add-one}
-use lib.Dec.{eqb, ltb}
+use lib.Dec.{eqb}
 use lib.IntN.{ℤ}
 use lib.ListN.{length, getD, set, take, drop, length-append, take-append-drop}
 use lib.Seq.{drop-cons, length-take-le, set-at, getD-at}
@@ -21,7 +21,7 @@ use Rattle.definition.specs.Types.{resolve}
 use Rattle.definition.specs.Size.{sizeOf}
 use Rattle.definition.specs.Align.{orOne, alignOf}
 use Rattle.definition.specs.Layout.{Laid, emptyBody, located, within, isUnsized, memberSize, inUnion, inStruct, isLast, placed, placedAll, recordSize, layout}
-use Rattle.table.specs.Held.{Encodes, memberAt, noMember}
+use Rattle.table.specs.Held.{Encodes, noMember}
 use Rattle.table.specs.Reply.{Reply, ok, bad}
 use Rattle.table.specs.Store.{memberPlaceSet, ChangesWides}
 use Rattle.table.specs.declared.Cursor.{Cursor}

@@ -1,7 +1,6 @@
 // Where each member of a body stands, and the body's size. The members are stored as they are laid out: sizes and alignments do not
 // depend on where members stand.
 ghost use mathlib.Core.Path.{_≡_};
-ghost use Prim.Native.Nat.{ℕ};
 ghost use lib.ListN.{length};
 ghost use Rattle.definition.specs.Layout.{isUnsized, layout};
 ghost use Rattle.definition.specs.Table.{rowAt};

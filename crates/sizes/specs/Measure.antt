@@ -7,7 +7,7 @@ use Prim.Native.Nat.{ℕ, _^_}
 use lib.Dec.{eqb, ltb}
 use lib.ListN.{length}
 use Rattle.definition.specs.Model.{Model as Model·meant}
-use Rattle.definition.specs.RowKind.{intKind, floatKind, boolKind, pointerKind, arrayKind, structKind, unionKind, enumKind, typedefKind, qualifiedKind}
+use Rattle.definition.specs.RowKind.{intKind, floatKind, boolKind, pointerKind, structKind, unionKind, enumKind}
 use Rattle.definition.specs.Row.{spanOf}
 use Rattle.definition.specs.Table.{Table, rowAt}
 use Rattle.definition.specs.Types.{membersOf}

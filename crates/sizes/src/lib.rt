@@ -1,6 +1,6 @@
 // The size of a row, exact as far as 64 bits go, and its alignment.
 ghost use mathlib.Core.Path.{_≡_};
-ghost use Prim.Native.Nat.{ℕ, max};
+ghost use Prim.Native.Nat.{max};
 ghost use Rattle.definition.specs.Limit.{alignLevels};
 ghost use Rattle.definition.specs.Align.{larger, orOne, capped};
 ghost use Rattle.words.specs.Meaning.{model};

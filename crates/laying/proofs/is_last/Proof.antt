@@ -1,11 +1,8 @@
 use Rattle.laying.proofs.is_last.Statement.{statement}
 use Rattle.laying.proofs.is_last.Tie as tie
-use Rattle.laying.proofs.is_last.Reads as reads
-use Rattle.laying.proofs.is_last.Lts as lts
-use Rattle.table.proofs.member_row.Reads as member-row-reads
 use borrow.Author.Needs.{needs}
 use native.Mathlib.Omega.{arith}
-use mathlib.Core.Path.{_≡_, refl, sym, ap, _∙_}
+use mathlib.Core.Path.{_≡_, refl, sym, _∙_}
 use mathlib.Core.Bool.{Bool}
 use Prim.Native.Nat.{_-_}
 use lib.ListN.{length, drop}

@@ -1,12 +1,7 @@
 use borrow.Author.Needs.{needs}
 use Rattle.laying.proofs.is_unsized.Statement.{statement}
 use Rattle.laying.proofs.is_unsized.Tie as tie
-use Rattle.laying.proofs.is_unsized.Reads as reads
-use Rattle.laying.proofs.is_unsized.Lts as lts
-use Rattle.rows.proofs.resolve.Reads as resolve-reads
-use Rattle.table.proofs.row_flags.Reads as row-flags-reads
-use Rattle.table.proofs.row_kind.Reads as row-kind-reads
-use mathlib.Core.Path.{_≡_, refl, sym, ap, _∙_}
+use mathlib.Core.Path.{ap, _∙_}
 use Rattle.definition.specs.Table.{rowAt}
 use Rattle.definition.specs.Layout.{isUnsized}
 use Rattle.laying.proofs.Laid.{not-array, array-so}

@@ -1,11 +1,7 @@
 use borrow.Author.Needs.{needs}
 use Rattle.laying.proofs.layout.Statement.{statement}
 use Rattle.laying.proofs.layout.Tie as tie
-use Rattle.laying.proofs.layout.Reads as reads
-use Rattle.laying.proofs.layout.Lts as lts
-use Rattle.laying.proofs.place_all.Reads as place-all-reads
-use Rattle.placing.proofs.record_size.Reads as record-size-reads
-use mathlib.Core.Path.{_≡_, refl, sym, ap, _∙_}
+use mathlib.Core.Path.{sym, ap, _∙_}
 use Rattle.words.specs.Meaning.{model}
 use Rattle.placing.specs.Outcome.{sized as sized·placing}
 use Rattle.laying.specs.Lays.{placing}

@@ -1,11 +1,7 @@
 use borrow.Author.Needs.{needs}
 use Rattle.laying.proofs.member_size.Statement.{statement}
 use Rattle.laying.proofs.member_size.Tie as tie
-use Rattle.laying.proofs.member_size.Reads as reads
-use Rattle.laying.proofs.member_size.Lts as lts
-use Rattle.laying.proofs.is_unsized.Reads as is-unsized-reads
-use Rattle.sizes.proofs.size_of.Reads as size-of-reads
-use mathlib.Core.Path.{_≡_, refl, sym, ap, _∙_}
+use mathlib.Core.Path.{sym, _∙_}
 use mathlib.Core.Bool.{_&&_}
 use Rattle.definition.specs.Table.{rowAt}
 use Rattle.definition.specs.Types.{resolve}

@@ -1,13 +1,5 @@
 use Rattle.laying.proofs.place_all.Statement.{statement}
 use Rattle.laying.proofs.place_all.Tie as tie
-use Rattle.laying.proofs.place_all.Reads as reads
-use Rattle.laying.proofs.place_all.Lts as lts
-use Rattle.laying.proofs.is_last.Reads as is-last-reads
-use Rattle.laying.proofs.place_member.Reads as place-member-reads
-use Rattle.placing.proofs.empty.Reads as empty-reads
-use Rattle.table.proofs.member_offset.Reads as member-offset-reads
-use Rattle.table.proofs.member_row.Reads as member-row-reads
-use Rattle.table.proofs.set_member_place.Reads as set-member-place-reads
 use borrow.Author.Needs.{needs}
 use native.Mathlib.Omega.{arith}
 use mathlib.Core.Path.{_≡_, refl, sym, ap, _∙_}

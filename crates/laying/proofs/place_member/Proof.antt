@@ -1,16 +1,7 @@
 use borrow.Author.Needs.{needs}
 use Rattle.laying.proofs.place_member.Statement.{statement}
 use Rattle.laying.proofs.place_member.Tie as tie
-use Rattle.laying.proofs.place_member.Reads as reads
-use Rattle.laying.proofs.place_member.Lts as lts
-use Rattle.laying.proofs.member_size.Reads as member-size-reads
-use Rattle.placing.proofs.in_struct.Reads as in-struct-reads
-use Rattle.placing.proofs.in_union.Reads as in-union-reads
-use Rattle.sizes.proofs.align_of.Reads as align-of-reads
-use Rattle.sizes.proofs.or_one.Reads as or-one-reads
-use Rattle.table.proofs.member_type.Reads as member-type-reads
-use Rattle.table.proofs.member_width.Reads as member-width-reads
-use mathlib.Core.Path.{_≡_, refl, sym, ap, _∙_}
+use mathlib.Core.Path.{sym, ap, _∙_}
 use Rattle.definition.specs.Align.{orOne}
 use Rattle.table.specs.Held.{memberAt}
 use Rattle.placing.specs.Outcome.{placed as placed·placing}

@@ -26,9 +26,7 @@ use mathlib.Core.Path.{_≡_, refl, sym, ap, _∙_}
 use mathlib.Core.Option.{some}
 use Prim.Native.Nat.{_+_, _-_, _*_}
 use lib.ListN.{length, drop}
-use borrow.Author.Tests.{not-true, not-false}
-use Rattle.definition.specs.Row.{spanOf}
-use Rattle.definition.specs.Table.{Table, carrying, rowAt}
+use Rattle.definition.specs.Table.{Table, carrying}
 use Rattle.definition.specs.Align.{orOne, largest, alignWithin}
 use Rattle.table.specs.Held.{InWords}
 use Rattle.words.specs.Meaning.{model}

@@ -15,7 +15,7 @@ use Rattle.sizes.proofs.+size_of.{statement}
 use Rattle.sizes.proofs.+size_of.Tie.{close}
 use borrow.Author.Needs.{needs}
 use native.Mathlib.Omega.{arith}
-use mathlib.Core.Path.{_≡_, refl, sym, ap, _∙_}
+use mathlib.Core.Path.{sym, ap, _∙_}
 use borrow.Author.Tests.{not-true, not-false}
 use Rattle.sizes.specs.Measure.{told}
 use Rattle.sizes.proofs.Told.{unknown! }

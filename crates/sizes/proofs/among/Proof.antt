@@ -1,9 +1,5 @@
 use Rattle.sizes.proofs.among.Statement.{statement}
 use Rattle.sizes.proofs.among.Tie as tie
-use Rattle.sizes.proofs.among.Reads as reads
-use Rattle.sizes.proofs.among.Lts as lts
-use borrow.Author.Needs.{needs}
-use mathlib.Core.Path.{_≡_, refl, sym, ap, _∙_}
 use borrow.Author.Tests.{eq-eqb, ne-eqb}
 use Rattle.sizes.specs.Measure.{among}
 

@@ -1,11 +1,6 @@
 use borrow.Author.Needs.{needs}
 use Rattle.sizes.proofs.larger.Statement.{statement}
 use Rattle.sizes.proofs.larger.Tie as tie
-use Rattle.sizes.proofs.larger.Reads as reads
-use Rattle.sizes.proofs.larger.Lts as lts
-use native.Mathlib.Omega.{arith}
-use mathlib.Core.Path.{_≡_, refl, sym, ap, _∙_}
-use mathlib.Core.Option.{some}
 use Rattle.sizes.proofs.Gathered.{only-left, right-larger, left-larger}
 
 enum-known-a : tie.Need-enum-known-a

@@ -1,15 +1,9 @@
 use borrow.Author.Needs.{needs}
 use Rattle.sizes.proofs.own_align.Statement.{statement}
 use Rattle.sizes.proofs.own_align.Tie as tie
-use Rattle.sizes.proofs.own_align.Reads as reads
-use Rattle.sizes.proofs.own_align.Lts as lts
-use Rattle.sizes.proofs.among.Reads as among-reads
-use Rattle.sizes.proofs.capped.Reads as capped-reads
-use native.Mathlib.Omega.{arith}
-use mathlib.Core.Path.{_≡_, refl, sym, ap, _∙_}
+use mathlib.Core.Path.{refl, sym, ap, _∙_}
 use mathlib.Core.Option.{Option, some}
 use Prim.Native.Nat.{ℕ}
-use borrow.Author.Tests.{not-true, not-false}
 use Rattle.words.proofs.Picked.{yes, nay, eq+, eq-}
 use Rattle.sizes.specs.Measure.{ownAlign}
 

@@ -1,11 +1,8 @@
 use borrow.Author.Needs.{needs}
 use Rattle.sizes.proofs.own_size.Statement.{statement}
 use Rattle.sizes.proofs.own_size.Tie as tie
-use Rattle.sizes.proofs.own_size.Reads as reads
-use Rattle.sizes.proofs.own_size.Lts as lts
-use Rattle.sizes.proofs.among.Reads as among-reads
 use native.Mathlib.Omega.{arith}
-use mathlib.Core.Path.{_≡_, refl, sym, ap, _∙_}
+use mathlib.Core.Path.{refl, sym, _∙_}
 use borrow.Author.Tests.{not-true, not-false}
 use Rattle.words.proofs.Picked.{yes, nay, eq+, eq-}
 use Rattle.sizes.specs.Measure.{told, ownSize}

@@ -1,10 +1,7 @@
 use borrow.Author.Needs.{needs}
 use Rattle.sizes.proofs.times.Statement.{statement}
 use Rattle.sizes.proofs.times.Tie as tie
-use Rattle.sizes.proofs.times.Reads as reads
-use Rattle.sizes.proofs.times.Lts as lts
 use native.Mathlib.Omega.{arith}
-use mathlib.Core.Path.{_≡_, refl, sym, ap, _∙_}
 use Rattle.sizes.proofs.Told.{times-none, times-zero-big, times-big, times-zero, times-past, times-fits, too-many, not-too-many}
 
 enum-told : tie.Need-enum-told
