@@ -4,8 +4,8 @@ use mathlib.Core.Bool.{Bool, true, false, _&&_, _||_, not}
 use mathlib.Core.List.{List, [], _∷_}
 use Prim.Native.Nat.{ℕ, zero, suc, _+_, _-_, _≤_, _<_}
 use native.Mathlib.Omega.{arith}
-use borrow.Author.Tests.{eq-eqb, ne-eqb, le-leb, lt-leb}
-use lib.Dec.{eqb, leb}
+use borrow.Author.Tests.{eq-eqb, ne-eqb, le-leb, lt-leb, ltb-true}
+use lib.Dec.{eqb, leb, ltb}
 use lib.ListN.{length, take, length-drop}
 use lib.Seq.{length-take-le}
 use Rattle.definition.specs.Answer.{Answer, got, refused, _>>=_}
@@ -19,7 +19,7 @@ use Rattle.definition.specs.Attribute.{Attribute, notBlank, inParens, changesLa
 use Rattle.definition.specs.Number.{isNumberByte, endsNumber, numberValue}
 use Rattle.definition.specs.Character.{Read, characterAt}
 use Rattle.definition.specs.Quoted.{inQuotes, afterString}
-use Rattle.definition.specs.Mark.{Mark, pair, twoByteMarks, markAmong, markAt, markOf, shortMark}
+use Rattle.definition.specs.Mark.{Mark, Written, pair, oneByteMarks, twoByteMarks, markAmong, markAt, markOf, shortMark}
 use Rattle.definition.specs.Word.{kindOf}
 use Rattle.definition.specs.Token.{Token}
 use Rattle.definition.specs.Spelling.{Spelling}
@@ -259,6 +259,41 @@ size-by a b c false p false q = let e : markOf a b c .size ≡ 2 = ap (λ (m : M
 pub mark-size : (bs : Bytes) → (1 ≤ markAt bs .size) × (markAt bs .size ≤ 3)
 unfolding markAt
 mark-size bs = size-by (byteAt bs 0) (byteAt bs 1) (byteAt bs 2) _ refl _ refl
+
+-- no mark has a name's kind
+unfoldable above : List Written → Bool
+above [] = true
+above (m ∷ ms) = ltb 24 (m .kind) && above ms
+
+and-both : (a b : Bool) → (a && b) ≡ true → (a ≡ true) × (b ≡ true)
+and-both true b e = (refl, e)
+and-both false b e = let y : _≡_ {A = ℕ} 0 1 = cc in absurd (omega arith)
+
+among-above : (ms : List Written) (n : ℕ) → above ms ≡ true → (markAmong ms n ≡ 0 → ⊥) → 24 < markAmong ms n
+unfolding markAmong above
+among-above [] n h z = absurd (z refl)
+among-above (m ∷ ms) n h z = by (eqb n (m .written)) refl (among-above ms n (and-both (ltb 24 (m .kind)) (above ms) h .1))
+  where
+    by : (t : Bool) → eqb n (m .written) ≡ t → ((markAmong ms n ≡ 0 → ⊥) → 24 < markAmong ms n) → 24 < markAmong (m ∷ ms) n
+    by true p f = let e : markAmong (m ∷ ms) n ≡ m .kind = yes! _ _ _ p in let k = ltb-true 24 (m .kind) (and-both (ltb 24 (m .kind)) (above ms) h .0) in omega arith
+    by false p f = let e : markAmong (m ∷ ms) n ≡ markAmong ms n = nay! _ _ _ p in let k = f (λ q. z (e ∙ q)) in omega arith
+
+kind-by : (a b c : ℕ) → (markOf a b c .kind ≡ 0 → ⊥) → (t : Bool) → (eqb a 46 && (eqb b 46 && eqb c 46)) ≡ t → (u : Bool) → eqb (markAmong twoByteMarks (pair a b)) 0 ≡ u → 24 < markOf a b c .kind
+unfolding markOf shortMark above twoByteMarks oneByteMarks
+kind-by a b c z true p u q = let e : markOf a b c .kind ≡ 53 = ap (λ (m : Mark). m .kind) (yes! _ _ _ p) in omega arith
+kind-by a b c z false p true q =
+    let e : markOf a b c .kind ≡ markAmong oneByteMarks a = ap (λ (m : Mark). m .kind) (nay! _ _ _ p ∙ yes! _ _ _ q) in
+    let k = among-above oneByteMarks a refl (λ y. z (e ∙ y)) in omega arith
+kind-by a b c z false p false q =
+    let e : markOf a b c .kind ≡ markAmong twoByteMarks (pair a b) = ap (λ (m : Mark). m .kind) (nay! _ _ _ p ∙ nay! _ _ _ q) in
+    let k = among-above twoByteMarks (pair a b) refl (λ y. z (e ∙ y)) in omega arith
+
+pub mark-plain : (bs : Bytes) (m : Mark) → m ≡ markAt bs → (m .kind ≡ 0 → ⊥) → isName (m .kind) ≡ false
+unfolding markAt
+mark-plain bs m e z =
+    let q : m .kind ≡ markAt bs .kind = ap (λ (x : Mark). x .kind) e in
+    let k = kind-by (byteAt bs 0) (byteAt bs 1) (byteAt bs 2) (λ y. z (q ∙ y)) _ refl _ refl in
+    name-above (m .kind) (omega arith)
 
 pub before-inside : (stop : Bytes → Bool) (text : Bytes) (at end : ℕ) → at ≤ length text → end ≡ at + before stop (from text at) → end ≤ length text
 before-inside stop text at end h e = let b = before-bound stop (from text at) in let l = length-drop at text in omega arith

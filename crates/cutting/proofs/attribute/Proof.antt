@@ -32,7 +32,7 @@ use Rattle.literals.specs.Shown.{value, read}
 use Rattle.marks.specs.Found.{mark}
 use Rattle.attributes.specs.Shown.{attribute}
 use Rattle.cutting.specs.Pieces.{Cuts, CutsOn, Starts, state}
-use Rattle.cutting.proofs.Steps.{letter-on, digit-on, word-attribute, word-plain, word-name, name-below, name-within, name-above, attribute-on, attribute-kept, attribute-dropped, attribute-refused, number-got, number-refused, character-got, character-refused, string-open, string-got, mark-none, mark-got, token-word, token-number, token-character, token-string, token-mark, comment-open, comment-got, line-kept, line-dropped, other-joins, other-note, other-comment, other-hash, other-token, next-feed, next-blank, next-other, mark-size, before-inside}
+use Rattle.cutting.proofs.Steps.{letter-on, digit-on, word-attribute, word-plain, word-name, name-below, name-within, name-above, attribute-on, attribute-kept, attribute-dropped, attribute-refused, number-got, number-refused, character-got, character-refused, string-open, string-got, mark-none, mark-got, token-word, token-number, token-character, token-string, token-mark, comment-open, comment-got, line-kept, line-dropped, other-joins, other-note, other-comment, other-hash, other-token, next-feed, next-blank, next-other, mark-size, mark-plain, before-inside}
 
 attribute-at-requires : tie.Need-attribute-at-requires
 attribute-at-requires c κs = search needs
@@ -41,16 +41,16 @@ enum-known-a : tie.Need-enum-known-a
 enum-known-a c = search needs
 
 returns : tie.Need-returns
-returns c = let q = sym (c .before .before .before .before .attribute-at .ensures) ∙ ap attribute (c .before .before .a .given .1) in record { same = λ line ts ns. attribute-kept (c .before .before .before .before .before .before .args .text .now) _ _ line ts ns _ _ q (c .if1 .taken); on = (let k = attribute-on (c .before .before .before .before .before .before .args .text .now) _ _ _ q in omega (arith, k, c .before .before .before .before .before .before .pre)) }
+returns c = let q = sym (c .before .before .before .before .attribute-at .ensures) ∙ ap attribute (c .before .before .a .given .1) in record { same = λ line ts ns. attribute-kept (c .before .before .before .before .before .before .args .text .now) _ _ line ts ns _ _ q (c .if1 .taken); on = (let k = attribute-on (c .before .before .before .before .before .before .args .text .now) _ _ _ q in omega (arith, k, c .before .before .before .before .before .before .pre)); fine = name-below 3 (omega arith) }
 
 enum-known-a-2 : tie.Need-enum-known-a-2
 enum-known-a-2 c = search needs
 
 returns-2 : tie.Need-returns-2
-returns-2 c = let q = sym (c .before .before .before .before .attribute-at .ensures) ∙ ap attribute (c .before .before .a .given .1) in record { same = λ line ts ns. attribute-dropped (c .before .before .before .before .before .before .args .text .now) _ _ line ts ns _ _ q (c .if1 .left); on = (let k = attribute-on (c .before .before .before .before .before .before .args .text .now) _ _ _ q in omega (arith, k, c .before .before .before .before .before .before .pre)) }
+returns-2 c = let q = sym (c .before .before .before .before .attribute-at .ensures) ∙ ap attribute (c .before .before .a .given .1) in record { same = λ line ts ns. attribute-dropped (c .before .before .before .before .before .before .args .text .now) _ _ line ts ns _ _ q (c .if1 .left); on = (let k = attribute-on (c .before .before .before .before .before .before .args .text .now) _ _ _ q in omega (arith, k, c .before .before .before .before .before .before .pre)); fine = tt }
 
 returns-3 : tie.Need-returns-3
-returns-3 c = let q = sym (c .before .before .before .attribute-at .ensures) ∙ ap attribute (c .before .a2 .given .1) in record { same = λ line ts ns. attribute-refused (c .before .before .before .before .before .args .text .now) _ _ line ts ns _ _ q; on = omega arith }
+returns-3 c = let q = sym (c .before .before .before .attribute-at .ensures) ∙ ap attribute (c .before .a2 .given .1) in record { same = λ line ts ns. attribute-refused (c .before .before .before .before .before .args .text .now) _ _ line ts ns _ _ q; on = omega arith; fine = tt }
 
 pub attribute-spec : {M : Type 1} → statement M
 attribute-spec =

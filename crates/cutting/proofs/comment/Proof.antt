@@ -32,7 +32,7 @@ use Rattle.literals.specs.Shown.{value, read}
 use Rattle.marks.specs.Found.{mark}
 use Rattle.attributes.specs.Shown.{attribute}
 use Rattle.cutting.specs.Pieces.{Cuts, CutsOn, Starts, state}
-use Rattle.cutting.proofs.Steps.{letter-on, digit-on, word-attribute, word-plain, word-name, name-below, name-within, name-above, attribute-on, attribute-kept, attribute-dropped, attribute-refused, number-got, number-refused, character-got, character-refused, string-open, string-got, mark-none, mark-got, token-word, token-number, token-character, token-string, token-mark, comment-open, comment-got, line-kept, line-dropped, other-joins, other-note, other-comment, other-hash, other-token, next-feed, next-blank, next-other, mark-size, before-inside}
+use Rattle.cutting.proofs.Steps.{letter-on, digit-on, word-attribute, word-plain, word-name, name-below, name-within, name-above, attribute-on, attribute-kept, attribute-dropped, attribute-refused, number-got, number-refused, character-got, character-refused, string-open, string-got, mark-none, mark-got, token-word, token-number, token-character, token-string, token-mark, comment-open, comment-got, line-kept, line-dropped, other-joins, other-note, other-comment, other-hash, other-token, next-feed, next-blank, next-other, mark-size, mark-plain, before-inside}
 
 add-comment-end : tie.Need-add-comment-end
 add-comment-end c = search needs
@@ -44,13 +44,13 @@ add-if1 : tie.Need-add-if1
 add-if1 c = let k = before-inside endsComment (c .before .before .args .text .now) (c .before .before .args .at + 2) _ (c .before .before .pre) (c .comment-end .ensures) in record { fits = omega (arith, k, c .before .before .good .0 .1) }
 
 returns : tie.Need-returns
-returns c = record { same = λ ts ns. comment-open (c .before .before .before .args .text .now) _ _ ts ns _ (c .before .comment-end .ensures) (c .if1 .taken); on = omega arith }
+returns c = record { same = λ ts ns. comment-open (c .before .before .before .args .text .now) _ _ ts ns _ (c .before .comment-end .ensures) (c .if1 .taken); on = omega arith; fine = tt }
 
 add-t5 : tie.Need-add-t5
 add-t5 c = search needs
 
 returns-2 : tie.Need-returns-2
-returns-2 c = record { same = λ ts ns. comment-got (c .before .before .before .args .text .now) _ _ ts ns _ (c .before .comment-end .ensures) (c .if1 .left); on = (let e = c .before .comment-end .ensures in omega (arith, e)) }
+returns-2 c = record { same = λ ts ns. comment-got (c .before .before .before .args .text .now) _ _ ts ns _ (c .before .comment-end .ensures) (c .if1 .left); on = (let e = c .before .comment-end .ensures in omega (arith, e)); fine = tt }
 
 pub comment-spec : {M : Type 1} → statement M
 comment-spec =

@@ -32,16 +32,16 @@ use Rattle.literals.specs.Shown.{value, read}
 use Rattle.marks.specs.Found.{mark}
 use Rattle.attributes.specs.Shown.{attribute}
 use Rattle.cutting.specs.Pieces.{Cuts, CutsOn, Starts, state}
-use Rattle.cutting.proofs.Steps.{letter-on, digit-on, word-attribute, word-plain, word-name, name-below, name-within, name-above, attribute-on, attribute-kept, attribute-dropped, attribute-refused, number-got, number-refused, character-got, character-refused, string-open, string-got, mark-none, mark-got, token-word, token-number, token-character, token-string, token-mark, comment-open, comment-got, line-kept, line-dropped, other-joins, other-note, other-comment, other-hash, other-token, next-feed, next-blank, next-other, mark-size, before-inside}
+use Rattle.cutting.proofs.Steps.{letter-on, digit-on, word-attribute, word-plain, word-name, name-below, name-within, name-above, attribute-on, attribute-kept, attribute-dropped, attribute-refused, number-got, number-refused, character-got, character-refused, string-open, string-got, mark-none, mark-got, token-word, token-number, token-character, token-string, token-mark, comment-open, comment-got, line-kept, line-dropped, other-joins, other-note, other-comment, other-hash, other-token, next-feed, next-blank, next-other, mark-size, mark-plain, before-inside}
 
 directive-requires : tie.Need-directive-requires
 directive-requires c κs = search needs
 
 returns : tie.Need-returns
-returns c = record { same = λ ts ns. line-kept (c .before .before .before .args .text .now) _ _ ts ns _ (c .before .directive .ensures .keeps) (c .if1 .taken); on = omega arith }
+returns c = record { same = λ ts ns. line-kept (c .before .before .before .args .text .now) _ _ ts ns _ (c .before .directive .ensures .keeps) (c .if1 .taken); on = omega arith; fine = tt }
 
 returns-2 : tie.Need-returns-2
-returns-2 c = record { same = λ ts ns. line-dropped (c .before .before .before .args .text .now) _ _ ts ns _ _ (c .before .directive .ensures .keeps) (c .if1 .left) (c .before .directive .ensures .next); on = c .before .directive .ensures .on }
+returns-2 c = record { same = λ ts ns. line-dropped (c .before .before .before .args .text .now) _ _ ts ns _ _ (c .before .directive .ensures .keeps) (c .if1 .left) (c .before .directive .ensures .next); on = c .before .directive .ensures .on; fine = tt }
 
 pub hash-line-spec : {M : Type 1} → statement M
 hash-line-spec = tie.close (tie.spec directive-requires returns returns-2)

@@ -32,19 +32,19 @@ use Rattle.literals.specs.Shown.{value, read}
 use Rattle.marks.specs.Found.{mark}
 use Rattle.attributes.specs.Shown.{attribute}
 use Rattle.cutting.specs.Pieces.{Cuts, CutsOn, Starts, state}
-use Rattle.cutting.proofs.Steps.{letter-on, digit-on, word-attribute, word-plain, word-name, name-below, name-within, name-above, attribute-on, attribute-kept, attribute-dropped, attribute-refused, number-got, number-refused, character-got, character-refused, string-open, string-got, mark-none, mark-got, token-word, token-number, token-character, token-string, token-mark, comment-open, comment-got, line-kept, line-dropped, other-joins, other-note, other-comment, other-hash, other-token, next-feed, next-blank, next-other, mark-size, before-inside}
+use Rattle.cutting.proofs.Steps.{letter-on, digit-on, word-attribute, word-plain, word-name, name-below, name-within, name-above, attribute-on, attribute-kept, attribute-dropped, attribute-refused, number-got, number-refused, character-got, character-refused, string-open, string-got, mark-none, mark-got, token-word, token-number, token-character, token-string, token-mark, comment-open, comment-got, line-kept, line-dropped, other-joins, other-note, other-comment, other-hash, other-token, next-feed, next-blank, next-other, mark-size, mark-plain, before-inside}
 
 mark-at-requires : tie.Need-mark-at-requires
 mark-at-requires c κs = search needs
 
 returns : tie.Need-returns
-returns c = record { same = λ line ts ns. mark-none (c .before .before .before .before .args .text .now) _ line ts ns _ (c .before .before .mark-at .ensures) (c .if1 .taken); on = omega arith }
+returns c = record { same = λ line ts ns. mark-none (c .before .before .before .before .args .text .now) _ line ts ns _ (c .before .before .mark-at .ensures) (c .if1 .taken); on = omega arith; fine = tt }
 
 add-t5 : tie.Need-add-t5
 add-t5 c = let s = mark-size (from (c .before .before .before .before .before .args .text .now) (c .before .before .before .before .before .args .at)) in let e = ap (λ (m : Mark). m .size) (c .before .before .before .mark-at .ensures) in record { fits = omega (arith, s .1, e, c .before .before .before .before .before .good .0 .1, c .before .before .before .before .before .pre) }
 
 returns-2 : tie.Need-returns-2
-returns-2 c = record { same = λ line ts ns. mark-got (c .before .before .before .before .before .args .text .now) _ line ts ns _ (c .before .before .before .mark-at .ensures) (c .before .if1 .left); on = (let s = mark-size (from (c .before .before .before .before .before .args .text .now) (c .before .before .before .before .before .args .at)) in let e = ap (λ (m : Mark). m .size) (c .before .before .before .mark-at .ensures) in omega (arith, s .0, e)) }
+returns-2 c = record { same = λ line ts ns. mark-got (c .before .before .before .before .before .args .text .now) _ line ts ns _ (c .before .before .before .mark-at .ensures) (c .before .if1 .left); on = (let s = mark-size (from (c .before .before .before .before .before .args .text .now) (c .before .before .before .before .before .args .at)) in let e = ap (λ (m : Mark). m .size) (c .before .before .before .mark-at .ensures) in omega (arith, s .0, e)); fine = mark-plain (from (c .before .before .before .before .before .args .text .now) (c .before .before .before .before .before .args .at)) _ (c .before .before .before .mark-at .ensures) (c .before .if1 .left) }
 
 pub mark-spec : {M : Type 1} → statement M
 mark-spec = tie.close (tie.spec mark-at-requires returns add-t5 returns-2)

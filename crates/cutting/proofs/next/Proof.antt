@@ -34,7 +34,7 @@ use Rattle.literals.specs.Shown.{value, read}
 use Rattle.marks.specs.Found.{mark}
 use Rattle.attributes.specs.Shown.{attribute}
 use Rattle.cutting.specs.Pieces.{Cuts, CutsOn, Starts, state}
-use Rattle.cutting.proofs.Steps.{letter-on, digit-on, word-attribute, word-plain, word-name, name-below, name-within, name-above, attribute-on, attribute-kept, attribute-dropped, attribute-refused, number-got, number-refused, character-got, character-refused, string-open, string-got, mark-none, mark-got, token-word, token-number, token-character, token-string, token-mark, comment-open, comment-got, line-kept, line-dropped, other-joins, other-note, other-comment, other-hash, other-token, next-feed, next-blank, next-other, mark-size, before-inside}
+use Rattle.cutting.proofs.Steps.{letter-on, digit-on, word-attribute, word-plain, word-name, name-below, name-within, name-above, attribute-on, attribute-kept, attribute-dropped, attribute-refused, number-got, number-refused, character-got, character-refused, string-open, string-got, mark-none, mark-got, token-word, token-number, token-character, token-string, token-mark, comment-open, comment-got, line-kept, line-dropped, other-joins, other-note, other-comment, other-hash, other-token, next-feed, next-blank, next-other, mark-size, mark-plain, before-inside}
 
 byte-at-requires : tie.Need-byte-at-requires
 byte-at-requires c κs = search needs
@@ -44,7 +44,7 @@ add-t6 c = search needs
 
 returns : tie.Need-returns
 unfolding newLine
-returns c = record { same = λ ts ns. next-feed (c .before .before .before .args .text .now) (state (c .before .before .before .args .at) (c .before .before .before .args .line) ts ns) (sym (c .before .byte-at .ensures) ∙ c .if1 .taken); on = omega arith }
+returns c = record { same = λ ts ns. next-feed (c .before .before .before .args .text .now) (state (c .before .before .before .args .at) (c .before .before .before .args .line) ts ns) (sym (c .before .byte-at .ensures) ∙ c .if1 .taken); on = omega arith; fine = tt }
 
 is-blank-requires : tie.Need-is-blank-requires
 is-blank-requires c κs = search needs
@@ -54,13 +54,13 @@ add-t8 c = search needs
 
 returns-2 : tie.Need-returns-2
 unfolding skipTo
-returns-2 c = record { same = λ ts ns. next-blank (c .before .before .before .before .before .args .text .now) (state (c .before .before .before .before .before .args .at) (c .before .before .before .before .before .args .line) ts ns) (λ e. c .before .before .if1 .left (c .before .before .before .byte-at .ensures ∙ e)) (rw (c .before .before .before .byte-at .ensures) at (sym (c .before .is-blank .ensures) ∙ c .if2 .taken)); on = omega arith }
+returns-2 c = record { same = λ ts ns. next-blank (c .before .before .before .before .before .args .text .now) (state (c .before .before .before .before .before .args .at) (c .before .before .before .before .before .args .line) ts ns) (λ e. c .before .before .if1 .left (c .before .before .before .byte-at .ensures ∙ e)) (rw (c .before .before .before .byte-at .ensures) at (sym (c .before .is-blank .ensures) ∙ c .if2 .taken)); on = omega arith; fine = tt }
 
 other-requires : tie.Need-other-requires
 other-requires c κs = search needs
 
 returns-3 : tie.Need-returns-3
-returns-3 c = record { same = λ ts ns. next-other (c .before .before .before .before .before .before .args .text .now) (state (c .before .before .before .before .before .before .args .at) (c .before .before .before .before .before .before .args .line) ts ns) (λ e. c .before .before .before .if1 .left (c .before .before .before .before .byte-at .ensures ∙ e)) (rw (c .before .before .before .before .byte-at .ensures) at (sym (c .before .before .is-blank .ensures) ∙ c .before .if2 .left)) ∙ c .other .ensures .same ts ns; on = c .other .ensures .on }
+returns-3 c = record { same = λ ts ns. next-other (c .before .before .before .before .before .before .args .text .now) (state (c .before .before .before .before .before .before .args .at) (c .before .before .before .before .before .before .args .line) ts ns) (λ e. c .before .before .before .if1 .left (c .before .before .before .before .byte-at .ensures ∙ e)) (rw (c .before .before .before .before .byte-at .ensures) at (sym (c .before .before .is-blank .ensures) ∙ c .before .if2 .left)) ∙ c .other .ensures .same ts ns; on = c .other .ensures .on; fine = c .other .ensures .fine }
 
 pub next-spec : {M : Type 1} → statement M
 next-spec =

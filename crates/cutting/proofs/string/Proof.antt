@@ -32,7 +32,7 @@ use Rattle.literals.specs.Shown.{value, read}
 use Rattle.marks.specs.Found.{mark}
 use Rattle.attributes.specs.Shown.{attribute}
 use Rattle.cutting.specs.Pieces.{Cuts, CutsOn, Starts, state}
-use Rattle.cutting.proofs.Steps.{letter-on, digit-on, word-attribute, word-plain, word-name, name-below, name-within, name-above, attribute-on, attribute-kept, attribute-dropped, attribute-refused, number-got, number-refused, character-got, character-refused, string-open, string-got, mark-none, mark-got, token-word, token-number, token-character, token-string, token-mark, comment-open, comment-got, line-kept, line-dropped, other-joins, other-note, other-comment, other-hash, other-token, next-feed, next-blank, next-other, mark-size, before-inside}
+use Rattle.cutting.proofs.Steps.{letter-on, digit-on, word-attribute, word-plain, word-name, name-below, name-within, name-above, attribute-on, attribute-kept, attribute-dropped, attribute-refused, number-got, number-refused, character-got, character-refused, string-open, string-got, mark-none, mark-got, token-word, token-number, token-character, token-string, token-mark, comment-open, comment-got, line-kept, line-dropped, other-joins, other-note, other-comment, other-hash, other-token, next-feed, next-blank, next-other, mark-size, mark-plain, before-inside}
 
 add-string-end : tie.Need-add-string-end
 add-string-end c = search needs
@@ -41,13 +41,13 @@ string-end-requires : tie.Need-string-end-requires
 string-end-requires c κs = search needs
 
 returns : tie.Need-returns
-returns c = record { same = λ line ts ns. string-open (c .before .before .before .args .text .now) _ line ts ns _ (c .before .string-end .ensures) (c .if1 .taken); on = omega arith }
+returns c = record { same = λ line ts ns. string-open (c .before .before .before .args .text .now) _ line ts ns _ (c .before .string-end .ensures) (c .if1 .taken); on = omega arith; fine = tt }
 
 add-t4 : tie.Need-add-t4
 add-t4 c = search needs
 
 returns-2 : tie.Need-returns-2
-returns-2 c = record { same = λ line ts ns. string-got (c .before .before .before .args .text .now) _ line ts ns _ (c .before .string-end .ensures) (c .if1 .left); on = (let e = c .before .string-end .ensures in omega (arith, e)) }
+returns-2 c = record { same = λ line ts ns. string-got (c .before .before .before .args .text .now) _ line ts ns _ (c .before .string-end .ensures) (c .if1 .left); on = (let e = c .before .string-end .ensures in omega (arith, e)); fine = name-below 2 (omega arith) }
 
 pub string-spec : {M : Type 1} → statement M
 string-spec = tie.close (tie.spec add-string-end string-end-requires returns add-t4 returns-2)

@@ -1,17 +1,11 @@
--- What the parts of the parser answer.
+-- What the readers of widths and bounds answer.
 use mathlib.Core.Option.{Option, none, some}
-use mathlib.Core.List.{List}
 use Prim.Native.Nat.{ℕ, zero, suc}
-use Rattle.definition.specs.Token.{Tokens}
 use Rattle.table.specs.Reply.{Reply, ok, bad}
 use Rattle.table.specs.declared.Step.{Step}
 use Rattle.table.specs.declared.Step.the-variants.{Done, Refused}
 use Rattle.parts.specs.declared.Bound.{Bound}
 use Rattle.parts.specs.declared.Bound.the-variants.{Of, Open, Refused as Bound·Refused}
-
--- the columns of tokens
-abbrev pub tokens : List ℕ → List ℕ → Tokens
-tokens ks ns = record { kinds = ks; numbers = ns }
 
 -- a width by its number: 0 for a plain member, else 1 more than the width
 abbrev pub widthIn : ℕ → Option ℕ

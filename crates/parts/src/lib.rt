@@ -11,16 +11,20 @@ use words::kinds::STAR;
 ghost use Rattle.definition.specs.Reader.{levels};
 ghost use Rattle.definition.specs.Composite.{bitWidth};
 ghost use Rattle.definition.specs.Declarator.{constantBound, arrayBound};
+ghost use Rattle.constants.specs.Reading.{tokens};
 ghost use Rattle.table.specs.Held.{Room};
 ghost use Rattle.evaluating.specs.Leaves.{Leaves};
-ghost use Rattle.parts.specs.Parts.{tokens, width, bound};
+ghost use Rattle.parts.specs.Parts.{width, bound};
 
-// Refusals.
+// Refusals: a mark missing, "bound negative or `*`", "bit-field width outside 0 to 64".
 pub const MISSING_MARK: u32 = 10;
 
 pub const BAD_BOUND: u32 = 18;
 
 pub const BAD_WIDTH: u32 = 19;
+
+// The greatest width of a bit-field.
+const WIDEST: i64 = 64;
 
 // An array's bound and where to read on; without a bound; or a refusal.
 pub enum Bound {
@@ -52,7 +56,7 @@ pub fn bit_width(
             if z < 0 {
                 return Step::Refused(BAD_WIDTH, at);
             }
-            if 64 < z {
+            if WIDEST < z {
                 return Step::Refused(BAD_WIDTH, at);
             }
             Step::Done(e, z as u32 + 1)
@@ -61,7 +65,7 @@ pub fn bit_width(
     }
 }
 
-// The bound that a constant is.
+// The constant before `]`, as a bound.
 fn constant_bound(
     kinds: &[u32],
     numbers: &[u64],
