@@ -1,0 +1,3 @@
+pub mod Rounds
+pub mod Opens
+pub mod Waiting
