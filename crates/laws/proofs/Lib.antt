@@ -17,3 +17,4 @@ pub mod LexerProgress
 pub mod Spaced
 pub mod LexerRounds
 pub mod Call
+pub mod Columns

@@ -6,7 +6,7 @@ use Prim.Native.Nat.{ℕ, zero, suc, _+_, _-_, _*_, _≤_, _<_}
 use native.Mathlib.Omega.{arith}
 use native.Mathlib.Nat.{le-refl}
 use lib.Dec.{eqb, leb, ltb}
-use lib.ListN.{length, getD, take, drop}
+use lib.ListN.{length, getD, take, drop, length-drop}
 use lib.Seq.{getD-drop}
 use borrow.Author.Tests.{leb-false, ltb-false, eqb-true, eqb-false}
 use Rattle.definition.specs.Answer.{Answer, got, refused, _>>=_}
@@ -22,7 +22,7 @@ use Rattle.definition.specs.Number.{isNumberByte, endsNumber}
 use Rattle.definition.specs.Mark.{Mark, Written, twoByteMarks, oneByteMarks, markAmong, shortMark, markOf, markAt, pair}
 use Rattle.definition.specs.Word.{kindOf}
 use Rattle.definition.specs.Name.{noName, nameOf, offsetOf}
-use Rattle.definition.specs.Spelling.{knownName}
+use Rattle.definition.specs.Spelling.{Spelling, knownName}
 use Rattle.definition.specs.Token.{Token, Tokens, Lexed, columns}
 use Rattle.definition.specs.Table.{Table}
 use Rattle.definition.specs.NameTable.{heldNames, isHeld, namesAmong, nameTable}
@@ -31,7 +31,7 @@ use Rattle.definition.specs.Cut.{Cutting, skipTo, newLine, dropTo, push, meet, 
 use Rattle.laws.specs.Every.{Every}
 use Rattle.laws.proofs.Every.{got!, no!, bool!, test!, then!, weaker!, any! }
 use Rattle.laws.proofs.Same.{chosen!, other! }
-use Rattle.laws.proofs.LexerProgress.{before-positive, from-length, letter-in-word, digit-in-number, word-goes-on, number-goes-on, word-ends, run-length, line-comment-positive, afterComment-past, lineFrom-on, attributeAt-on, characterAt-past, afterString-past}
+use Rattle.laws.proofs.LexerProgress.{before-le, before-positive, from-length, letter-in-word, digit-in-number, word-goes-on, number-goes-on, word-ends, run-length, line-comment-positive, afterComment-past, lineFrom-on, attributeAt-on, characterAt-past, afterString-past}
 
 -- ---- how many tokens are names
 
@@ -111,11 +111,20 @@ mark-takes bs = marked (byteAt bs 0) (byteAt bs 1) (byteAt bs 2) .takes
 
 -- ---- a step
 
+-- the name that a word is given here: a new one, or that of its spelling
+pub data Given (at : ℕ) (w : Bytes) (ns ns′ : List Spelling) (n : ℕ) : Type 0 where
+  new : n ≡ nameOf at (length w) → ns′ ≡ ns ++ record { spelling = w; offset = at } ∷ [] → Given at w ns ns′ n
+  old : n ≡ knownName ns w → (n ≡ noName → ⊥) → ns′ ≡ ns → Given at w ns ns′ n
+
 pub data Step (text : Bytes) (s s′ : Cutting) : Type 0 where
-  -- no name was read
-  plain : s .at < s′ .at → names (s′ .tokens) ≡ names (s .tokens) → Step text s s′
-  -- a name was read, and no byte of a word follows it
-  name : s .at < s′ .at → names (s′ .tokens) ≡ suc (names (s .tokens)) → isWordByte (byteAt text (s .at)) ≡ true → isWordByte (byteAt text (s′ .at)) ≡ false → Step text s s′
+  -- no token was read
+  skip : s .at < s′ .at → s′ .tokens ≡ s .tokens → s′ .names ≡ s .names → Step text s s′
+  -- a token that is no name
+  token : (k n : ℕ) → kind.isName k ≡ false → s .at < s′ .at → s′ .tokens ≡ s .tokens ++ record { kind = k; place = s .at; number = n } ∷ [] → s′ .names ≡ s .names → Step text s s′
+  -- a name, and no byte of a word follows it
+  name : (k n : ℕ) (w : Bytes) → kind.isName k ≡ true → s .at < s′ .at → s′ .tokens ≡ s .tokens ++ record { kind = k; place = s .at; number = n } ∷ []
+      → 0 < length w → s .at + length w ≤ length text → Given (s .at) w (s .names) (s′ .names) n
+      → isWordByte (byteAt text (s .at)) ≡ true → isWordByte (byteAt text (s′ .at)) ≡ false → Step text s s′
 
 abbrev Steps : Bytes → Cutting → Answer Cutting → Type 0
 Steps text s r = Every (Step text s) r
@@ -124,15 +133,15 @@ module _ (text : Bytes) (s : Cutting) where
   -- a token that is no name
   pushed : (k n next : ℕ) → kind.isName k ≡ false → s .at < next → Step text s (push k n next s)
   unfolding push
-  pushed k n next e p = plain p (no-name-more (s .tokens) _ e)
+  pushed k n next e p = token k n e p refl refl
 
   skipped : (next : ℕ) → s .at < next → Step text s (skipTo next s)
   unfolding skipTo
-  skipped next p = plain p refl
+  skipped next p = skip p refl refl
 
   dropped : (next : ℕ) → s .at < next → Step text s (dropTo next s)
   unfolding dropTo
-  dropped next p = plain p refl
+  dropped next p = skip p refl refl
 
   no-name-number : kind.isName kind.number ≡ false
   unfolding kind.isName
@@ -148,14 +157,15 @@ module _ (text : Bytes) (s : Cutting) where
 
   -- ---- words
 
-  named : (k : ℕ) (w : Bytes) → kind.isName k ≡ true → 0 < length w → isWordByte (byteAt text (s .at)) ≡ true → isWordByte (byteAt text (s .at + length w)) ≡ false
+  named : (k : ℕ) (w : Bytes) → kind.isName k ≡ true → 0 < length w → s .at + length w ≤ length text → isWordByte (byteAt text (s .at)) ≡ true → isWordByte (byteAt text (s .at + length w)) ≡ false
       → Step text s (pushName k w s)
   unfolding pushName push meet
-  named k w e p q r = go (eqb (knownName (s .names) w) noName)
+  named k w e p l q r = go (eqb (knownName (s .names) w) noName) refl
     where
-      go : (b : Bool) → Step text s (elim b as (λ z. Cutting) [ true ↦ push k (nameOf (s .at) (length w)) (s .at + length w) (meet w s) | false ↦ push k (knownName (s .names) w) (s .at + length w) s ])
-      go true = name (omega arith) (name-more (s .tokens) _ e) q r
-      go false = name (omega arith) (name-more (s .tokens) _ e) q r
+      go : (b : Bool) → eqb (knownName (s .names) w) noName ≡ b
+          → Step text s (elim b as (λ z. Cutting) [ true ↦ push k (nameOf (s .at) (length w)) (s .at + length w) (meet w s) | false ↦ push k (knownName (s .names) w) (s .at + length w) s ])
+      go true t = name k (nameOf (s .at) (length w)) w e (omega arith) refl p l (new refl refl) q r
+      go false t = name k (knownName (s .names) w) w e (omega arith) refl p l (old refl (eqb-false (knownName (s .names) w) noName t) refl) q r
 
   attributed : (a : Attribute) → s .at < a .next → Step text s (pushAttribute a s)
   unfolding pushAttribute
@@ -165,18 +175,19 @@ module _ (text : Bytes) (s : Cutting) where
       go true = pushed kind.attribute 0 (a .next) no-name-attribute p
       go false = dropped (a .next) p
 
-  cutWordOf-step : (k : ℕ) (w : Bytes) → 0 < length w → isWordByte (byteAt text (s .at)) ≡ true → isWordByte (byteAt text (s .at + length w)) ≡ false → Steps text s (cutWordOf text k w s)
+  cutWordOf-step : (k : ℕ) (w : Bytes) → 0 < length w → s .at + length w ≤ length text → isWordByte (byteAt text (s .at)) ≡ true → isWordByte (byteAt text (s .at + length w)) ≡ false → Steps text s (cutWordOf text k w s)
   unfolding cutWordOf
-  cutWordOf-step k w p q r = bool! (eqb k kind.attribute)
+  cutWordOf-step k w p l q r = bool! (eqb k kind.attribute)
       (then! _ _ (attributeAt-on text (s .at) (s .at + length w)) λ a h. got! (attributed a (omega arith)))
-      (test! (kind.isName k) (λ e. got! (named k w e p q r)) (λ e. got! (pushed k 0 (s .at + length w) e (omega arith))))
+      (test! (kind.isName k) (λ e. got! (named k w e p l q r)) (λ e. got! (pushed k 0 (s .at + length w) e (omega arith))))
 
   module _ (l : s .at < length text) where
     cutWord-step : eqb (classOf (byteAt text (s .at))) letter ≡ true → Steps text s (cutWord text s)
     unfolding cutWord wordAt
     cutWord-step e = let b = letter-in-word (byteAt text (s .at)) e in
         let n = run-length text (s .at) endsWord in let p = before-positive endsWord (from text (s .at)) (from-length text (s .at) l) (word-goes-on text (s .at) b) in
-        cutWordOf-step _ _ (omega arith) b (rw n (word-ends text (s .at)))
+        let m = before-le endsWord (from text (s .at)) in
+        cutWordOf-step _ _ (omega arith) (omega (arith, length-drop (s .at) text)) b (rw n (word-ends text (s .at)))
 
     cutNumber-step : eqb (classOf (byteAt text (s .at))) digit ≡ true → Steps text s (cutNumber text s)
     unfolding cutNumber numberWord
@@ -219,7 +230,7 @@ module _ (text : Bytes) (s : Cutting) where
 
     pub cutNext-step : Steps text s (cutNext text s)
     unfolding cutNext newLine
-    cutNext-step = bool! (eqb (byteAt text (s .at)) lineFeed) (got! (plain (omega arith) refl))
+    cutNext-step = bool! (eqb (byteAt text (s .at)) lineFeed) (got! (skip (omega arith) refl refl))
         (bool! (isBlank (byteAt text (s .at))) (got! (skipped _ (omega arith))) cutOther-step)
 
 -- a step goes on
@@ -227,8 +238,9 @@ pub cutNext-past : (text : Bytes) (s : Cutting) → s .at < length text → Ever
 cutNext-past text s l = weaker! (cutNext-step text s l) on
   where
     on : (s′ : Cutting) → Step text s s′ → s .at < s′ .at
-    on s′ (plain p e) = p
-    on s′ (name p e q r) = p
+    on s′ (skip p e f) = p
+    on s′ (token k n d p e f) = p
+    on s′ (name k n w d p e z l g q r) = p
 
 -- ---- names are apart
 
@@ -239,8 +251,12 @@ record Spaced (text : Bytes) (s : Cutting) : Type 0 where
   whole : 2 * names (s .tokens) ≤ length text + 1
 
 spaced-step : (text : Bytes) (s s′ : Cutting) → s .at < length text → Spaced text s → Step text s s′ → Spaced text s′
-spaced-step text s s′ l h (plain p e) = let a = h .half in let b = h .whole in record { half = omega arith; gap = λ q. omega arith; whole = omega arith }
-spaced-step text s s′ l h (name p e q r) = let a = h .gap q in record { half = omega arith; gap = λ t. let z : _≡_ {A = ℕ} 0 1 = cc in absurd (omega arith); whole = omega arith }
+spaced-step text s s′ l h (skip p e f) = let a = h .half in let b = h .whole in let c = ap names e in record { half = omega arith; gap = λ q. omega arith; whole = omega arith }
+spaced-step text s s′ l h (token k n d p e f) =
+    let a = h .half in let b = h .whole in let c = ap names e ∙ no-name-more (s .tokens) _ d in record { half = omega arith; gap = λ q. omega arith; whole = omega arith }
+spaced-step text s s′ l h (name k n w d p e z y g q r) =
+    let a = h .gap q in let c = ap names e ∙ name-more (s .tokens) _ d in
+    record { half = omega arith; gap = λ t. let z : _≡_ {A = ℕ} 0 1 = cc in absurd (omega arith); whole = omega arith }
 
 cutAll-spaced : (f : ℕ) (text : Bytes) (s : Cutting) → Spaced text s → Every (Spaced text) (cutAll f text s)
 unfolding cutAll

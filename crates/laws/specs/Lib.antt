@@ -3,3 +3,4 @@ pub mod Enough
 pub mod Progress
 pub mod Inside
 pub mod Left
+pub mod Columns

@@ -1,22 +1,27 @@
 -- What the entry answers. Assumes nothing.
-use mathlib.Core.Path.{_≡_, refl, sym, ap, _∙_}
-use mathlib.Core.Bool.{Bool, true, false, _||_}
-use mathlib.Core.List.{List, [], _∷_, _++_, map}
-use Prim.Native.Nat.{ℕ, zero, suc, _+_, _-_, _≤_, _<_}
+use mathlib.Core.Path.{_≡_, sym, ap, _∙_}
+use mathlib.Core.Bool.{true, false, _||_}
+use mathlib.Core.List.{List, map}
+use Prim.Native.Nat.{ℕ, _≤_, _<_}
 use native.Mathlib.Omega.{arith}
 use borrow.Author.Tests.{lt-ltb, le-ltb}
 use lib.Dec.{ltb}
 use lib.ListN.{length, replicate, length-replicate, length-map}
-use Rattle.definition.specs.Answer.{Answer, got, refused, _>>=_}
-use Rattle.definition.specs.Text.{Bytes}
-use Rattle.definition.specs.Scan.{before}
-use Rattle.definition.specs.Token.{Token, Lexed, columns}
+use Rattle.definition.specs.Answer.{got, refused}
+use Rattle.definition.specs.Text.{Bytes, byteAt}
+use Rattle.definition.specs.Scan.{from, before}
+use Rattle.definition.specs.Token.{Token, columns}
 use Rattle.definition.specs.Cut.{Cutting, cut, aboveAscii, checkBytes, tokenize}
 use Rattle.scan.proofs.Branch.{yes!, nay!, lt+, lt-, either-first, either-second, neither}
+use Rattle.scan.proofs.Going.{first-from}
 use Rattle.cutting.proofs.Steps.{via, halt}
-use Rattle.tokens.specs.Columns.{padded, Out, out, shown, short, answered, Holds, Room, Zero, Fills, done, stop}
+use Rattle.tokens.specs.Columns.{padded, out, shown, short, answered, Holds, Zero, Fills, done, stop}
 use Rattle.tokens.specs.declared.Lexing.{Lexing}
 use Rattle.tokens.specs.declared.Lexing.the-variants.{Done, Refused}
+
+pub above-is : (text : Bytes) (i : ℕ) → aboveAscii (from text i) ≡ ltb 127 (byteAt text i)
+unfolding aboveAscii
+above-is text i = ap (λ (b : ℕ). ltb 127 b) (first-from text i)
 
 -- the definition's answer
 module _ (text : Bytes) where

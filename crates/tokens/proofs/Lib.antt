@@ -1,5 +1,5 @@
 pub mod Zeros
-pub mod Found
 pub mod Meeting
+pub mod Stored
 pub mod Rounds
 pub mod Entry

@@ -1,8 +1,8 @@
 -- Laws of the names among the tokens, when one token more is stored. Assumes nothing.
 use mathlib.Core.Path.{_≡_, refl, sym, ap, _∙_}
-use mathlib.Core.Bool.{Bool, true, false, _&&_}
+use mathlib.Core.Bool.{Bool, true, false}
 use mathlib.Core.List.{List, [], _∷_, _++_}
-use Prim.Native.Nat.{ℕ, zero, suc, _+_, _-_, _*_, _/_, _%_, _≤_, _<_}
+use Prim.Native.Nat.{ℕ, _+_, _-_, _*_, _≤_, _<_}
 use native.Mathlib.Omega.{arith}
 use borrow.Author.Tests.{eqb-true, eqb-false}
 use lib.Dec.{eqb}
@@ -11,14 +11,15 @@ use lib.Seq.{getD-set-same, getD-set-other}
 use Rattle.definition.specs.Text.{Bytes, same}
 use Rattle.definition.specs.Scan.{from}
 use Rattle.definition.specs.Kind.{isName}
-use Rattle.definition.specs.Name.{nameOf, offsetOf, lengthOf}
+use Rattle.definition.specs.Name.{nameOf}
 use Rattle.definition.specs.Token.{Token}
 use Rattle.definition.specs.Spelling.{Spelling, knownName}
-use Rattle.definition.specs.Cut.{Cutting, push, meet, pushName}
+use Rattle.definition.specs.Cut.{push, meet, pushName}
 use Rattle.scan.proofs.Branch.{yes!, nay!, eq+, eq-}
 use Rattle.cutting.specs.Pieces.{state}
-use Rattle.tokens.specs.Names.{spelledBy, Inside, isNameOf, Finds, found, fresh, Good, Named}
-use Rattle.tokens.proofs.Found.{same-refl, same-equal, part-long}
+use Rattle.chains.specs.Names.{spelledBy, isNameOf}
+use Rattle.chains.proofs.Found.{same-refl, same-equal, part-long, name-was, name-is, parts-new, spelled-new}
+use Rattle.tokens.specs.Names.{Finds, found, fresh, Good, Named}
 
 -- a spelling more
 known-step : (s : Spelling) (ss : List Spelling) (w : Bytes) → same (s .spelling) w ≡ true → knownName (s ∷ ss) w ≡ nameOf (s .offset) (length w)
@@ -109,10 +110,6 @@ pub record Pushed (text : Bytes) (ks ns : List ℕ) (count at next k r : ℕ) (l
   pub same : pushName k (take (next - at) (from text at)) (state at line ts names) ≡ state next false (ts ++ record { kind = k; place = at; number = r } ∷ []) names′
   pub named : Named text (set ks count k) (set ns count r) (count + 1) names′
 
-and-both : (a b : Bool) → (a && b) ≡ true → (a ≡ true) × (b ≡ true)
-and-both true b e = (refl, e)
-and-both false b e = let y : _≡_ {A = ℕ} 0 1 = cc in absurd (omega arith)
-
 module _ (text : Bytes) (ks ns : List ℕ) (count at next k r : ℕ) (line : Bool) (ts : List Token) (names : List Spelling) (h : Named text ks ns count names)
     (lk : count < length ks) (ln : count < length ns) (on : at < next) (within : next ≤ length text) (short : length text ≤ 32768) (name : isName k ≡ true) where
   abbrev word : Bytes
@@ -124,10 +121,6 @@ module _ (text : Bytes) (ks ns : List ℕ) (count at next k r : ℕ) (line : Boo
   word-end : at + length word ≡ next
   word-end = let l = word-long in omega arith
 
-  was : (j : ℕ) → isNameOf text word (getD ks j 0) (getD ns j 0) ≡ true → (isName (getD ks j 0) ≡ true) × (word ≡ spelledBy text (getD ns j 0))
-  unfolding isNameOf
-  was j e = let b = and-both (isName (getD ks j 0)) (same word (spelledBy text (getD ns j 0))) e in (b .0, same-equal word (spelledBy text (getD ns j 0)) (b .1))
-
   known-push : knownName names word ≡ r → (r ≡ 0 → ⊥) → pushName k word (state at line ts names) ≡ state next false (ts ++ record { kind = k; place = at; number = r } ∷ []) names
   unfolding pushName push
   known-push e z =
@@ -136,7 +129,7 @@ module _ (text : Bytes) (ks ns : List ℕ) (count at next k r : ℕ) (line : Boo
 
   pub met-known : (j : ℕ) → j < count → isNameOf text word (getD ks j 0) (getD ns j 0) ≡ true → r ≡ getD ns j 0 → Pushed text ks ns count at next k r line ts names
   met-known j p e q =
-      let b = was j e in
+      let b = name-was text word (getD ks j 0) (getD ns j 0) e in
       let g = h .good j p (b .0) in
       let i = g .some in
       let gr : Good text names r = rw q g in
@@ -147,18 +140,11 @@ module _ (text : Bytes) (ks ns : List ℕ) (count at next k r : ℕ) (line : Boo
       }
 
   unknown : ((j : ℕ) → j < count → isNameOf text word (getD ks j 0) (getD ns j 0) ≡ false) → (t : Bool) → eqb (knownName names word) 0 ≡ t → knownName names word ≡ 0
-  unfolding isNameOf
   unknown f true e = eqb-true (knownName names word) 0 e
   unknown f false e =
       let u = h .stands word (eqb-false (knownName names word) 0 e) in
-      let a : same word (spelledBy text (getD ns (u .0) 0)) ≡ true = ap (λ (l : Bytes). same word l) (u .3) ∙ same-refl word in
-      let b : isNameOf text word (getD ks (u .0) 0) (getD ns (u .0) 0) ≡ true = rw (u .2) a in
-      let c = sym b ∙ f (u .0) (u .1) in
+      let c = sym (name-is text word (getD ks (u .0) 0) (getD ns (u .0) 0) (u .2) (u .3)) ∙ f (u .0) (u .1) in
       let y : _≡_ {A = ℕ} 0 1 = cc in absurd (omega arith)
-
-  spelled-new : r ≡ nameOf at (next - at) → (offsetOf r ≡ at) × (lengthOf r ≡ next - at)
-  unfolding nameOf offsetOf lengthOf
-  spelled-new q = (omega (arith, q), omega (arith, q))
 
   abbrev spelling : Spelling
   spelling = record { spelling = word; offset = at }
@@ -174,11 +160,11 @@ module _ (text : Bytes) (ks ns : List ℕ) (count at next k r : ℕ) (line : Boo
   unfolding nameOf
   met-new f q =
       let z = unknown f (eqb (knownName names word) 0) refl in
-      let o = spelled-new q in
+      let o = parts-new text at next r on within short q in
       let a = o .0 in
       let b = o .1 in
       let l = word-long in
-      let s : spelledBy text r ≡ word = ap (λ (i : ℕ). take (lengthOf r) (from text i)) a ∙ ap (λ (i : ℕ). take i (from text at)) b in
+      let s : spelledBy text r ≡ word = spelled-new text at next r on within short q in
       let n : knownName (names ++ spelling ∷ []) word ≡ nameOf at (length word) = known-new names spelling word z (omega arith) (same-refl word) in
       let m : nameOf at (length word) ≡ r = ap (nameOf at) l ∙ sym q in
       let g : Good text (names ++ spelling ∷ []) r = record { inside = record { within = omega arith }; known = ap (knownName (names ++ spelling ∷ [])) s ∙ (n ∙ m); some = omega (arith, q, on) } in

@@ -1,15 +1,13 @@
 -- The loop over the pieces, and what the entry makes of it. Assumes nothing.
 use mathlib.Core.Path.{_≡_, refl, sym, ap, _∙_}
-use mathlib.Core.Bool.{Bool, true, false, _||_}
+use mathlib.Core.Bool.{Bool, true, false}
 use mathlib.Core.List.{List, [], _∷_, _++_, map, map-append, append-assoc}
 use Prim.Native.Nat.{ℕ, zero, suc, _+_, _-_, _≤_, _<_}
 use native.Mathlib.Omega.{arith}
-use lib.Dec.{leb, ltb}
-use lib.ListN.{length, set, replicate, length-append, length-set, length-map}
+use lib.ListN.{length, getD, set, replicate, length-append, length-set, length-map, length-replicate}
 use lib.Seq.{set-at}
-use Rattle.definition.specs.Answer.{Answer, got, refused, _>>=_}
+use Rattle.definition.specs.Answer.{Answer, got, refused}
 use Rattle.definition.specs.Text.{Bytes}
-use Rattle.definition.specs.Scan.{from}
 use Rattle.definition.specs.Token.{Token}
 use Rattle.definition.specs.Cut.{Cutting, push, cutNext, cutAll, cut}
 use Rattle.scan.proofs.Branch.{le+, le-}
@@ -17,13 +15,16 @@ use Rattle.cutting.specs.Pieces.{state, applied, CutsOn}
 use Rattle.cutting.specs.declared.Piece.{Piece}
 use Rattle.cutting.specs.declared.Piece.the-variants.{Skip, Token as Piece·Token, Name, Refused}
 use Rattle.cutting.proofs.Steps.{via, halt}
-use Rattle.tokens.specs.Columns.{padded, Holds, Fills, done, stop, Room, Zero, kindsOf, placesOf, numbersOf}
-use Rattle.tokens.specs.Names.{Named, Finds, Inside, Searches}
-use Rattle.definition.specs.Spelling.{Spelling, knownName}
-use Rattle.tokens.specs.declared.Lexing.{Lexing}
-use Rattle.tokens.specs.declared.Lexing.the-variants.{Done, Refused as Lexing·Refused}
-use Rattle.tokens.specs.Going.{Going}
-use Rattle.tokens.proofs.Meeting.{plain-more, Pushed, met}
+use Rattle.tokens.specs.Columns.{padded, Holds, Fills, done, Room, Zero}
+use Rattle.definition.specs.Kind.{isName}
+use Rattle.chains.specs.Chain.{bare, Chained}
+use Rattle.chains.proofs.Kept.{chained-plain}
+use Rattle.chains.proofs.Steps.{bare-set}
+use Rattle.tokens.specs.Names.{Finds, Searches, Stores}
+use Rattle.definition.specs.Spelling.{knownName}
+use Rattle.tokens.specs.declared.Lexing.the-variants.{Done}
+use Rattle.tokens.specs.Going.{Going, Linked}
+use Rattle.tokens.proofs.Meeting.{plain-more, met}
 
 -- a number more in a column
 pub put-column : (l xs : List ℕ) (i v : ℕ) → l ≡ padded (length l) xs → length xs ≡ i → i < length l → set l i v ≡ padded (length (set l i v)) (xs ++ v ∷ [])
@@ -91,19 +92,35 @@ module _ (text : Bytes) (at : ℕ) (line : Bool) (count : ℕ) (ks ps ns : List 
   pub on-token : (k n to : ℕ) → r ≡ Piece·Token k n to → at < to
   on-token k n to e = rw e at (cuts .on)
 
+  pub plain-token : (k n to : ℕ) → r ≡ Piece·Token k n to → isName k ≡ false
+  plain-token k n to e = rw e at (cuts .fine)
+
   pub on-name : (k to : ℕ) → r ≡ Name k to → at < to
   on-name k to e = rw e at (cuts .on)
 
   pub go-count : Room text ks ps ns → (count < length ks) × (count < length ps) × (count < length ns)
   go-count room = let w = g .few in let a = room .fits in let b = room .kinds in let c = room .places in let d = room .numbers in (omega arith, omega arith, omega arith)
 
-  pub go-search : (k to : ℕ) → r ≡ Name k to → Room text ks ps ns → Searches text ks ns count at to
-  go-search k to e room =
+  pub go-search : (k to : ℕ) → r ≡ Name k to → Room text ks ps ns → (ls heads : List ℕ) → ps ≡ map bare ls → length heads ≡ 4096 → Chained text ks ls ns heads count
+      → Searches text ks ls ns heads count at to
+  go-search k to e room ls heads same l chained =
       let f = (rw e at (cuts .fine)) in
       let w = go-count room in
-      let a = w .0 in
-      let b = w .2 in
-      record { kinds = omega arith; numbers = omega arith; on = on-name k to e; ends = f .1; short = room .fits; inside = λ j p q. g .named .good j p q .inside }
+      let n : length ps ≡ length ls = ap (λ (x : List ℕ). length x) same ∙ length-map ls bare in
+      let p = w .1 in
+      record {
+        kinds = w .0;
+        places = omega arith;
+        numbers = w .2;
+        hashes = l;
+        few = g .few;
+        on = on-name k to e;
+        ends = f .1;
+        short = room .fits;
+        inside = λ j p q. g .named .good j p q .inside;
+        some = λ j p q. g .named .good j p q .some;
+        chained = chained;
+      }
 
   module _ (room : Room text ks ps ns) (ks′ ps′ ns′ : List ℕ) where
     pub go-token : (k n to : ℕ) → r ≡ Piece·Token k n to → ks′ ≡ set ks count k → ps′ ≡ set ps count at → ns′ ≡ set ns count n → Going text to false (count + 1) ks′ ps′ ns′ whole
@@ -128,14 +145,14 @@ module _ (text : Bytes) (at : ℕ) (line : Bool) (count : ℕ) (ks ps ns : List 
         })
 
     pub go-name : (k n to : ℕ) → r ≡ Name k to → Finds text ks ns count at to n → ks′ ≡ set ks count k → ps′ ≡ set ps count at → ns′ ≡ set ns count n → Going text to false (count + 1) ks′ ps′ ns′ whole
-    go-name k n to e found a b c =
+    go-name k n to e finds a b c =
         let o : at < to = (rw e at (cuts .on)) in
         let f = (rw e at (cuts .fine)) in
         let w = g .few in
         let lk : count < length ks = (let x = room .kinds in let y = room .fits in omega arith) in
         let lp : count < length ps = (let x = room .places in let y = room .fits in omega arith) in
         let ln : count < length ns = (let x = room .numbers in let y = room .fits in omega arith) in
-        let m = met text ks ns count at to k n line (g .tokens) (g .names) (g .named) lk ln o (f .1) (room .fits) (f .0) found in
+        let m = met text ks ns count at to k n line (g .tokens) (g .names) (g .named) lk ln o (f .1) (room .fits) (f .0) finds in
         rw (a, b, c) (record {
           tokens = g .tokens ++ record { kind = k; place = at; number = n } ∷ [];
           names = m .names′;
@@ -171,12 +188,95 @@ pub go-done : (text : Bytes) (at : ℕ) (line : Bool) (count : ℕ) (ks ps ns : 
 go-done text at line count ks ps ns g h =
     done (state at line (g .tokens) (g .names)) (cut-ends text (g .rounds) (state at line (g .tokens) (g .names)) (cut text) (g .enough) (g .same) h) (ap (λ (n : ℕ). Done n) (g .counted)) (g .holds)
 
--- a store keeps a length
-pub long-set : (l l′ : List ℕ) (i v n : ℕ) → l′ ≡ set l i v → length l ≡ n → length l′ ≡ n
-long-set l l′ i v n e q = ap (λ (x : List ℕ). length x) e ∙ (length-set l i v ∙ q)
+-- lengths that are kept
+long-set : (l l′ : List ℕ) (i v : ℕ) → l′ ≡ set l i v → length l′ ≡ length l
+long-set l l′ i v e = ap (λ (x : List ℕ). length x) e ∙ length-set l i v
 
-pub room-set : (text : Bytes) (ks ps ns ks′ ps′ ns′ : List ℕ) (i k p n : ℕ) → Room text ks ps ns → ks′ ≡ set ks i k → ps′ ≡ set ps i p → ns′ ≡ set ns i n → Room text ks′ ps′ ns′
-room-set text ks ps ns ks′ ps′ ns′ i k p n r a b c =
+pub room-kept : (text : Bytes) (ks ps ns ks′ ps′ ns′ : List ℕ) → Room text ks ps ns → length ks′ ≡ length ks → length ps′ ≡ length ps → length ns′ ≡ length ns → Room text ks′ ps′ ns′
+room-kept text ks ps ns ks′ ps′ ns′ r a b c =
     let x = r .kinds in let y = r .places in let z = r .numbers in
-    let d = long-set ks ks′ i k _ a refl in let e = long-set ps ps′ i p _ b refl in let f = long-set ns ns′ i n _ c refl in
     record { fits = r .fits; kinds = omega arith; places = omega arith; numbers = omega arith }
+
+pub room-bare : (text : Bytes) (ks ps ns : List ℕ) → Room text ks ps ns → Room text ks (map bare ps) ns
+room-bare text ks ps ns r = room-kept text ks ps ns ks (map bare ps) ns r refl (length-map ps bare) refl
+
+-- columns of zeros have no chains
+zeros-at : (n i : ℕ) → _≡_ {A = ℕ} (getD (replicate n 0) i 0) 0
+zeros-at zero i = refl
+zeros-at (suc n) zero = refl
+zeros-at (suc n) (suc i) = zeros-at n i
+
+pub zero-bare : (ks ps ns : List ℕ) → Zero ks ps ns ks ps ns → Zero ks (map bare ps) ns ks (map bare ps) ns
+zero-bare ks ps ns z = record { kinds = z .kinds; places = bare-zeros ps (length ps) (z .places) ∙ ap (λ (n : ℕ). replicate n 0) (sym (length-map ps bare)); numbers = z .numbers }
+  where
+    bare-zeros′ : (n : ℕ) → map bare (replicate n 0) ≡ replicate n 0
+    bare-zeros′ zero = refl
+    bare-zeros′ (suc n) = ap (λ (l : List ℕ). 0 ∷ l) (bare-zeros′ n)
+
+    bare-zeros : (l : List ℕ) (n : ℕ) → l ≡ replicate n 0 → map bare l ≡ replicate n 0
+    bare-zeros l n e = ap (λ (x : List ℕ). map bare x) e ∙ bare-zeros′ n
+
+pub chained-start : (text : Bytes) (ks ps ns heads : List ℕ) (n : ℕ) → heads ≡ replicate n 0 → Chained text ks ps ns heads 0
+chained-start text ks ps ns heads n e = record {
+  falls = λ j p. absurd (omega arith);
+  low = λ h. rw (ap (λ (x : List ℕ). getD x h 0) e ∙ zeros-at n h) (omega arith);
+  chain = λ j p q. absurd (omega arith);
+}
+
+-- the loop with the links
+pub link-start : (text : Bytes) (ks ps ns heads : List ℕ) → Room text ks ps ns → Zero ks ps ns ks ps ns → heads ≡ replicate 4096 0 → Linked text 0 true 0 ks ps ns heads (cut text)
+link-start text ks ps ns heads room z e = record {
+  going = go-start text ks (map bare ps) ns (zero-bare ks ps ns z);
+  room = room;
+  hashes = ap (λ (x : List ℕ). length x) e ∙ length-replicate {A = ℕ} 4096 0;
+  chained = chained-start text ks ps ns heads 4096 e;
+}
+
+module _ (text : Bytes) (at : ℕ) (line : Bool) (count : ℕ) (ks ps ns heads : List ℕ) (whole : Answer Cutting) (g : Linked text at line count ks ps ns heads whole)
+    (inside : at < length text) (r : Piece) (cuts : CutsOn (cutNext text) text at line r) where
+  bare-room : Room text ks (map bare ps) ns
+  bare-room = room-bare text ks ps ns (g .room)
+
+  pub link-refused : (n p : ℕ) → r ≡ Refused n p → whole ≡ refused n p
+  link-refused = go-refused text at line count ks (map bare ps) ns whole (g .going) inside r cuts
+
+  pub link-skip : (to : ℕ) (starts : Bool) → r ≡ Skip to starts → Linked text to starts count ks ps ns heads whole
+  link-skip to starts e = record { going = go-skip text at line count ks (map bare ps) ns whole (g .going) inside r cuts to starts e; room = g .room; hashes = g .hashes; chained = g .chained }
+
+  pub skip-on : (to : ℕ) (starts : Bool) → r ≡ Skip to starts → at < to
+  skip-on = on-skip text at line count ks (map bare ps) ns whole (g .going) inside r cuts
+
+  pub token-on : (k n to : ℕ) → r ≡ Piece·Token k n to → at < to
+  token-on = on-token text at line count ks (map bare ps) ns whole (g .going) inside r cuts
+
+  pub name-on : (k to : ℕ) → r ≡ Name k to → at < to
+  name-on = on-name text at line count ks (map bare ps) ns whole (g .going) inside r cuts
+
+  pub link-count : (count < length ks) × (count < length ps) × (count < length ns)
+  link-count =
+      let w = go-count text at line count ks (map bare ps) ns whole (g .going) inside r cuts bare-room in
+      let l : length (map bare ps) ≡ length ps = length-map ps bare in
+      let p = w .1 in
+      (w .0, omega (arith, l, p), w .2)
+
+  pub link-search : (k to : ℕ) → r ≡ Name k to → Searches text ks ps ns heads count at to
+  link-search k to e = go-search text at line count ks (map bare ps) ns whole (g .going) inside r cuts k to e bare-room ps heads refl (g .hashes) (g .chained)
+
+  pub link-token : (k n to : ℕ) (ks′ ps′ ns′ : List ℕ) → r ≡ Piece·Token k n to → ks′ ≡ set ks count k → ps′ ≡ set ps count at → ns′ ≡ set ns count n → Linked text to false (count + 1) ks′ ps′ ns′ heads whole
+  link-token k n to ks′ ps′ ns′ e a b c =
+      let l = g .room .fits in
+      let w = link-count in
+      record {
+        going = go-token text at line count ks (map bare ps) ns whole (g .going) inside r cuts bare-room ks′ (map bare ps′) ns′ k n to e a (ap (λ (x : List ℕ). map bare x) b ∙ bare-set ps count at at (omega arith)) c;
+        room = room-kept text ks ps ns ks′ ps′ ns′ (g .room) (long-set ks ks′ count k a) (long-set ps ps′ count at b) (long-set ns ns′ count n c);
+        hashes = g .hashes;
+        chained = rw (a, b, c) (chained-plain text ks ps ns heads count k at n (g .chained) (w .1) (w .0) (w .2) (omega arith) (plain-token text at line count ks (map bare ps) ns whole (g .going) inside r cuts k n to e));
+      }
+
+  pub link-name : (k to : ℕ) (ks′ ps′ ns′ heads′ : List ℕ) → r ≡ Name k to → Stores text ks ps ns count k at to ks′ ps′ ns′ heads′ → length ps′ ≡ length ps → Linked text to false (count + 1) ks′ ps′ ns′ heads′ whole
+  link-name k to ks′ ps′ ns′ heads′ e s l = record {
+    going = go-name text at line count ks (map bare ps) ns whole (g .going) inside r cuts bare-room ks′ (map bare ps′) ns′ k (s .number) to e (s .finds) (s .kinds) (s .places) (s .numbers);
+    room = room-kept text ks ps ns ks′ ps′ ns′ (g .room) (long-set ks ks′ count k (s .kinds)) l (long-set ns ns′ count (s .number) (s .numbers));
+    hashes = s .hashes;
+    chained = s .chained;
+  }

@@ -1,7 +1,7 @@
 -- The loop over the pieces of a text: what is left of it gives the whole.
 use mathlib.Core.Path.{_≡_}
 use mathlib.Core.Bool.{Bool}
-use mathlib.Core.List.{List}
+use mathlib.Core.List.{List, map}
 use Prim.Native.Nat.{ℕ, _-_, _≤_, _<_}
 use lib.ListN.{length}
 use Rattle.definition.specs.Answer.{Answer}
@@ -10,7 +10,8 @@ use Rattle.definition.specs.Token.{Token}
 use Rattle.definition.specs.Spelling.{Spelling}
 use Rattle.definition.specs.Cut.{Cutting, cutAll}
 use Rattle.cutting.specs.Pieces.{state}
-use Rattle.tokens.specs.Columns.{Holds}
+use Rattle.chains.specs.Chain.{bare, Chained}
+use Rattle.tokens.specs.Columns.{Holds, Room}
 use Rattle.tokens.specs.Names.{Named}
 
 pub record Going (text : Bytes) (at : ℕ) (line : Bool) (count : ℕ) (ks ps ns : List ℕ) (whole : Answer Cutting) : Type 0 where
@@ -23,3 +24,10 @@ pub record Going (text : Bytes) (at : ℕ) (line : Bool) (count : ℕ) (ks ps ns
   pub few : count ≤ at
   pub holds : Holds tokens ks ps ns
   pub named : Named text ks ns count names
+
+-- the same with the links, which stand beside the places until all tokens are read
+pub record Linked (text : Bytes) (at : ℕ) (line : Bool) (count : ℕ) (ks ps ns heads : List ℕ) (whole : Answer Cutting) : Type 0 where
+  pub going : Going text at line count ks (map bare ps) ns whole
+  pub room : Room text ks ps ns
+  pub hashes : length heads ≡ 4096
+  pub chained : Chained text ks ps ns heads count

@@ -1,18 +1,22 @@
 // A text cut into tokens, in three columns that the caller lends: kinds, places and numbers.
-use attributes::starts_with;
+use chains::HEADS;
+use chains::LINK;
+use chains::NAME_LENGTH;
+use chains::bare;
+use chains::hash;
+use chains::walk;
 use cutting::Piece;
 use cutting::next;
 use scan::byte_at;
 ghost use mathlib.Core.Path.{_≡_};
-ghost use mathlib.Core.Bool.{Bool, true};
-ghost use Prim.Native.Nat.{ℕ, _+_, _-_, _≤_, _<_};
-ghost use lib.ListN.{length, set, replicate, take};
-ghost use Rattle.definition.specs.Kind.{isName};
-ghost use Rattle.definition.specs.Text.{same};
-ghost use Rattle.definition.specs.Scan.{from, before};
+ghost use mathlib.Core.List.{map};
+ghost use Prim.Native.Nat.{ℕ, _<_};
+ghost use lib.ListN.{length, set, replicate};
+ghost use Rattle.definition.specs.Scan.{before};
 ghost use Rattle.definition.specs.Cut.{aboveAscii};
+ghost use Rattle.chains.specs.Chain.{bare};
 ghost use Rattle.tokens.specs.Columns.{out, answered, Room, Zero, Fills};
-ghost use Rattle.tokens.specs.Names.{spelledBy, Inside, isNameOf, Searches, Finds};
+ghost use Rattle.tokens.specs.Names.{Searches, Stores};
 
 pub const MAX_TEXT: usize = 32768;
 
@@ -23,13 +27,6 @@ pub const TEXT_TOO_LONG: u32 = 2;
 pub const NOT_ASCII: u32 = 3;
 
 const LAST_BYTE: u32 = 127;
-
-const IDENTIFIER: u32 = 4;
-
-const LAST_NAME: u32 = 24;
-
-// A name is this times its length, and its offset.
-const NAME_LENGTH: u64 = 65536;
 
 // How many tokens, or a refusal with its number and offset.
 pub enum Lexing {
@@ -80,60 +77,6 @@ fn ascii_end(text: &[u8]) -> usize
     i
 }
 
-// A word that is no keyword.
-fn is_name(k: u32) -> bool
-    ensures { λ r. ⌜ r ≡ isName k ⌝ }
-{
-    if k < IDENTIFIER {
-        return false;
-    }
-    k <= LAST_NAME
-}
-
-// A name has the spelling from an offset to another.
-fn spelled(text: &[u8], n: u64, at: usize, end: usize) -> bool
-    requires { ⌜ Inside (now text) n ⌝ }
-    requires { ⌜ at ≤ end ⌝ }
-    requires { ⌜ end ≤ length (now text) ⌝ }
-    ensures { λ r. ⌜ r ≡ same (take (end - at) (from (now (text .entry)) at)) (spelledBy (now (text .entry)) n) ⌝ }
-{
-    let size = (n / NAME_LENGTH) as usize;
-    if size != end - at {
-        return false;
-    }
-    let offset = (n % NAME_LENGTH) as usize;
-    starts_with(text, offset, &text[at..end])
-}
-
-// A token of a kind and a number is the name of that spelling.
-fn is_name_of(text: &[u8], k: u32, n: u64, at: usize, end: usize) -> bool
-    requires { ⌜ (isName k ≡ true → Inside (now text) n) ⌝ }
-    requires { ⌜ at ≤ end ⌝ }
-    requires { ⌜ end ≤ length (now text) ⌝ }
-    ensures { λ r. ⌜ r ≡ isNameOf (now (text .entry)) (take (end - at) (from (now (text .entry)) at)) k n ⌝ }
-{
-    if is_name(k) {
-        return spelled(text, n, at, end);
-    }
-    false
-}
-
-// The name of the spelling from an offset to another: that of a token before, or a new one at this place.
-fn name_at(text: &[u8], kinds: &[u32], numbers: &[u64], count: usize, at: usize, end: usize) -> u64
-    requires { ⌜ Searches (now text) (now kinds) (now numbers) count at end ⌝ }
-    ensures { λ r. ⌜ Finds (now (text .entry)) (now (kinds .entry)) (now (numbers .entry)) count at end r ⌝ }
-{
-    let mut j = 0;
-    while j < count {
-        let n = numbers[j];
-        if is_name_of(text, kinds[j], n, at, end) {
-            return n;
-        }
-        j += 1;
-    }
-    NAME_LENGTH * ((end - at) as u64) + (at as u64)
-}
-
 // Stores a token.
 fn put(
     kinds: &mut [u32],
@@ -156,11 +99,46 @@ fn put(
     numbers[count] = number;
 }
 
-// Fills columns of zeros with the tokens of a text.
-fn fill(text: &[u8], kinds: &mut [u32], places: &mut [u32], numbers: &mut [u64]) -> Lexing
+// Stores a name that stands from an offset to another: with the number of a token before of its spelling, or with a new one, then at the head of its chain.
+fn put_name(
+    text: &[u8],
+    kinds: &mut [u32],
+    places: &mut [u32],
+    numbers: &mut [u64],
+    heads: &mut [u32],
+    count: usize,
+    kind: u32,
+    at: usize,
+    end: usize,
+)
+    requires { ⌜ Searches (now text) (now kinds) (now places) (now numbers) (now heads) count at end ⌝ }
+    ensures { λ _. ⌜ Stores (now (text .entry)) (now (kinds .entry)) (now (places .entry)) (now (numbers .entry)) count kind at end (now (kinds .exit)) (now (places .exit)) (now (numbers .exit)) (now (heads .exit)) ⌝ }
+{
+    let h = hash(&text[at..end]);
+    let head = heads[h];
+    let known = walk(text, kinds, places, numbers, count, head as usize, at, end);
+    if known != 0 {
+        put(kinds, places, numbers, count, kind, at as u32, known);
+        return;
+    }
+    let name = NAME_LENGTH * ((end - at) as u64) + (at as u64);
+    let place = LINK * head + (at as u32);
+    put(kinds, places, numbers, count, kind, place, name);
+    heads[h] = (count + 1) as u32;
+}
+
+// Fills columns of zeros with the tokens of a text. Until all are read, a name's place has its link beside it.
+fn cut_all(
+    text: &[u8],
+    kinds: &mut [u32],
+    places: &mut [u32],
+    numbers: &mut [u64],
+    heads: &mut [u32],
+) -> Lexing
     requires { ⌜ Room (now text) (now kinds) (now places) (now numbers) ⌝ }
     requires { ⌜ Zero (now kinds) (now places) (now numbers) (now kinds) (now places) (now numbers) ⌝ }
-    ensures { λ r. ⌜ Fills (now (text .entry)) r (now (kinds .exit)) (now (places .exit)) (now (numbers .exit)) ⌝ }
+    requires { ⌜ now heads ≡ replicate 4096 0 ⌝ }
+    ensures { λ r. ⌜ Fills (now (text .entry)) r (now (kinds .exit)) (map bare (now (places .exit))) (now (numbers .exit)) ⌝ }
 {
     let mut at = 0;
     let mut line = true;
@@ -181,8 +159,7 @@ fn fill(text: &[u8], kinds: &mut [u32], places: &mut [u32], numbers: &mut [u64])
                 continue;
             }
             Piece::Name(kind, to) => {
-                let name = name_at(text, kinds, numbers, count, at, to);
-                put(kinds, places, numbers, count, kind, at as u32, name);
+                put_name(text, kinds, places, numbers, heads, count, kind, at, to);
                 at = to;
                 line = false;
                 count += 1;
@@ -192,6 +169,18 @@ fn fill(text: &[u8], kinds: &mut [u32], places: &mut [u32], numbers: &mut [u64])
         }
     }
     Lexing::Done(count)
+}
+
+// Fills columns of zeros with the tokens of a text.
+fn fill(text: &[u8], kinds: &mut [u32], places: &mut [u32], numbers: &mut [u64]) -> Lexing
+    requires { ⌜ Room (now text) (now kinds) (now places) (now numbers) ⌝ }
+    requires { ⌜ Zero (now kinds) (now places) (now numbers) (now kinds) (now places) (now numbers) ⌝ }
+    ensures { λ r. ⌜ Fills (now (text .entry)) r (now (kinds .exit)) (now (places .exit)) (now (numbers .exit)) ⌝ }
+{
+    let mut heads = [0u32; HEADS];
+    let r = cut_all(text, kinds, places, numbers, &mut heads);
+    bare(places);
+    r
 }
 
 // The tokens of a text, in columns of 32,768 entries at least; zeros stand after them, and everywhere on a refusal.

@@ -6,29 +6,8 @@ use Rattle.tokens.proofs.tokenize.Lts as lts
 use Rattle.tokens.proofs.ascii_end.Reads as ascii-end-reads
 use Rattle.tokens.proofs.clear.Reads as clear-reads
 use Rattle.tokens.proofs.fill.Reads as fill-reads
-use borrow.Author.Tests.{eq-eqb, ne-eqb, lt-leb, le-leb, lt-ltb, le-ltb, eqb-true, eqb-false, leb-true, leb-false, ltb-true, ltb-false, not-true, not-false}
-use native.Mathlib.Omega.{arith}
-use native.Mathlib.Numerals.{add-one}
-use mathlib.Core.Path.{_≡_, refl, sym, ap, _∙_}
-use mathlib.Core.Bool.{Bool, true, false, _&&_, _||_, not}
-use mathlib.Core.List.{List, [], _∷_}
-use Prim.Native.Nat.{ℕ, zero, suc, _+_, _-_, _*_, _≤_, _<_}
-use lib.Dec.{eqb, leb, ltb}
-use lib.ListN.{length, drop, take, getD, set, replicate, length-set}
-use Rattle.definition.specs.Text.{Bytes, byteAt}
-use Rattle.definition.specs.Scan.{from, first, before}
-use Rattle.definition.specs.Kind.{isName}
-use Rattle.definition.specs.Name.{nameOf, offsetOf, lengthOf}
-use Rattle.definition.specs.Cut.{aboveAscii}
-use Rattle.scan.proofs.Going.{moves, stops, ends}
-use Rattle.cutting.proofs.Steps.{name-below}
-use Rattle.tokens.specs.Names.{spelledBy, Inside, isNameOf, Searches, found, fresh}
-use Rattle.tokens.proofs.Zeros.{zeros-more, zeros-all}
-use Rattle.tokens.proofs.Found.{above-is, name-from, differs, agrees, name-yes, name-no, more-below}
-use Rattle.definition.specs.Cut.{cut, cutNext}
-use Rattle.tokens.specs.Columns.{Room, Zero, Holds, Fills, done, stop}
-use Rattle.tokens.specs.Going.{Going}
-use Rattle.tokens.proofs.Rounds.{go-start, go-done, go-skip, go-token, go-name, go-refused, go-search, go-count, on-skip, on-token, on-name, long-set, room-set}
+use mathlib.Core.Path.{_∙_}
+use Rattle.definition.specs.Scan.{before}
 use Rattle.tokens.proofs.Entry.{too-long, not-ascii, bad-call, turned-down, all-refused, all-done, zero-lengths, zero-self, zero-again, long-enough, too-short-kinds, too-short-places, too-short-numbers}
 
 clear-requires : tie.Need-clear-requires

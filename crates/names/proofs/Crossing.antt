@@ -1,0 +1,171 @@
+-- Names that are listed and struck out. Assumes nothing.
+use mathlib.Core.Path.{_≡_, refl, sym, ap, _∙_}
+use mathlib.Core.Bool.{Bool, true, false, _&&_, _||_}
+use mathlib.Core.List.{List, [], _∷_, _++_}
+use Prim.Native.Nat.{ℕ, _+_, _*_, _≤_, _<_}
+use native.Mathlib.Omega.{arith}
+use native.Mathlib.Numerals.{add-one}
+use lib.Dec.{eqb}
+use lib.ListN.{length, getD, set}
+use lib.Seq.{getD-set-same, getD-set-other}
+use borrow.Author.Tests.{ne-eqb, eqb-true, eqb-false}
+use Rattle.definition.specs.Kind.{isName}
+use Rattle.definition.specs.Name.{offsetOf}
+use Rattle.definition.specs.Limit.{maxText}
+use Rattle.definition.specs.NameTable.{isHeld}
+use Rattle.laws.specs.Columns.{Columns}
+use Rattle.names.specs.Names.{isFirst}
+use Rattle.names.specs.Striking.{column, Listed, slot, left, Struck, Found}
+
+-- ---- listing
+
+and-first : (a b : Bool) → (a && b) ≡ true → a ≡ true
+and-first true b e = refl
+and-first false b e = e
+
+and-second : (a b : Bool) → (a && b) ≡ true → b ≡ true
+and-second true b e = e
+and-second false b e = let z : _≡_ {A = ℕ} 0 1 = cc in absurd (omega arith)
+
+module _ (k p n : ℕ) (e : isFirst k p n ≡ true) where
+  pub first-name : isName k ≡ true
+  first-name = and-first (isName k) _ e
+
+  pub first-place : offsetOf n ≡ p
+  first-place = eqb-true (offsetOf n) p (and-second (isName k) _ e)
+
+-- the names of the tokens before i are listed
+pub record ListedTo (ks ps ns m : List ℕ) (i : ℕ) : Type 0 where
+  pub at : (j : ℕ) → j < i → isFirst (getD ks j 0) (getD ps j 0) (getD ns j 0) ≡ true → getD m (getD ps j 0) 0 ≡ getD ns j 0
+
+module _ {ks ps ns m : List ℕ} {i : ℕ} (h : ListedTo ks ps ns m i) where
+  module _ (c : Columns ks ps ns) (l : i < length ks) (long : length m ≡ maxText) where
+    pub list-more : ListedTo ks ps ns (set m (getD ps i 0) (getD ns i 0)) (i + 1)
+    list-more = record { at = λ j q e. go j q e (eqb j i) refl }
+      where
+        go : (j : ℕ) → j < i + 1 → isFirst (getD ks j 0) (getD ps j 0) (getD ns j 0) ≡ true → (b : Bool) → eqb j i ≡ b → getD (set m (getD ps i 0) (getD ns i 0)) (getD ps j 0) 0 ≡ getD ns j 0
+        go j q e true t = let z : j ≡ i = eqb-true j i t in rw z (getD-set-same m (getD ps i 0) (getD ns i 0) 0 (let a = c .within i l in omega arith))
+        go j q e false t =
+            let z : j < i = omega (arith, eqb-false j i t) in
+            let r = c .rising j i z l in
+            getD-set-other m (getD ps i 0) (getD ps j 0) (getD ns i 0) 0 (λ y. omega arith) ∙ h .at j z e
+
+  pub list-same : isFirst (getD ks i 0) (getD ps i 0) (getD ns i 0) ≡ false → ListedTo ks ps ns m (i + 1)
+  list-same f = record { at = λ j q e. go j q e (eqb j i) refl }
+    where
+      go : (j : ℕ) → j < i + 1 → isFirst (getD ks j 0) (getD ps j 0) (getD ns j 0) ≡ true → (b : Bool) → eqb j i ≡ b → getD m (getD ps j 0) 0 ≡ getD ns j 0
+      go j q e true t =
+          let z : j ≡ i = eqb-true j i t in
+          let u : isFirst (getD ks i 0) (getD ps i 0) (getD ns i 0) ≡ true = rw z at e in
+          let y : _≡_ {A = ℕ} 0 1 = cc in absurd (omega arith)
+      go j q e false t = h .at j (omega (arith, eqb-false j i t)) e
+
+  pub list-all : length ks ≤ i → Listed ks ps ns m
+  list-all q = record { at = λ j l e. h .at j (omega arith) e }
+
+pub list-none : {ks ps ns m : List ℕ} → ListedTo ks ps ns m 0
+list-none = record { at = λ j q e. absurd (omega arith) }
+
+-- ---- striking out
+
+pub held-append : (n : ℕ) (xs ys : List ℕ) → isHeld n (xs ++ ys) ≡ (isHeld n xs || isHeld n ys)
+unfolding isHeld
+held-append n [] ys = refl
+held-append n (x ∷ xs) ys = go (eqb x n) (held-append n xs ys)
+  where
+    go : (b : Bool) → isHeld n (xs ++ ys) ≡ (isHeld n xs || isHeld n ys)
+        → _≡_ {A = Bool} (elim b as (λ z. Bool) [ true ↦ true | false ↦ isHeld n (xs ++ ys) ]) ((elim b as (λ z. Bool) [ true ↦ true | false ↦ isHeld n xs ]) || isHeld n ys)
+    go true h = refl
+    go false h = h
+
+held-one : (n h : ℕ) → isHeld n (h ∷ []) ≡ eqb h n
+unfolding isHeld
+held-one n h = go (eqb h n)
+  where
+    go : (b : Bool) → _≡_ {A = Bool} (elim b as (λ z. Bool) [ true ↦ true | false ↦ false ]) b
+    go true = refl
+    go false = refl
+
+or-assoc : (a b c : Bool) → (a || (b || c)) ≡ ((a || b) || c)
+or-assoc true b c = refl
+or-assoc false b c = refl
+
+or-false : (a : Bool) → (a || false) ≡ a
+or-false true = refl
+or-false false = refl
+
+pub struck-none : {m : List ℕ} → Struck [] m m
+unfolding isHeld
+struck-none = record { at = λ n q b e. e ∙ ap (λ (x : Bool). left x n) (sym (or-false b)) }
+
+-- one region after the other
+pub struck-on : {hs gs m m₁ m₂ : List ℕ} → Struck hs m m₁ → Struck gs m₁ m₂ → Struck (hs ++ gs) m m₂
+struck-on {hs} {gs} f g = record {
+  at = λ n q b e.
+      g .at n q (b || isHeld n hs) (f .at n q b e) ∙ ap (λ (x : Bool). left x n) (sym (or-assoc b (isHeld n hs) (isHeld n gs)) ∙ ap (λ (x : Bool). b || x) (sym (held-append n hs gs)));
+}
+
+-- one name: it was listed,
+module _ (m : List ℕ) (h : ℕ) where
+  pub strike-it : length m ≡ maxText → getD m (slot h) 0 ≡ h → Struck (h ∷ []) m (set m (slot h) 0)
+  strike-it long is = record { at = λ n q b e. ap (λ (x : ℕ). x) (go n q b e (eqb (slot n) (slot h)) refl) ∙ ap (λ (x : Bool). left (b || x) n) (sym (held-one n h)) }
+    where
+      same : (n : ℕ) → 0 < n → (b : Bool) → getD m (slot n) 0 ≡ left b n → slot n ≡ slot h → (d : Bool) → eqb h n ≡ d → 0 ≡ left (b || d) n
+      same n q true e s d t = refl
+      same n q false e s true t = refl
+      same n q false e s false t =
+          let x : n ≡ h = sym e ∙ (ap (λ (i : ℕ). getD m i 0) s ∙ is) in absurd (eqb-false h n t (sym x))
+
+      other : (n : ℕ) → (b : Bool) → getD m (slot n) 0 ≡ left b n → (slot n ≡ slot h → ⊥) → (d : Bool) → eqb h n ≡ d → getD m (slot n) 0 ≡ left (b || d) n
+      other n true e s d t = e
+      other n false e s true t = let x : h ≡ n = eqb-true h n t in absurd (s (ap slot (sym x)))
+      other n false e s false t = e
+
+      go : (n : ℕ) → 0 < n → (b : Bool) → getD m (slot n) 0 ≡ left b n → (d : Bool) → eqb (slot n) (slot h) ≡ d → getD (set m (slot h) 0) (slot n) 0 ≡ left (b || eqb h n) n
+      go n q b e true t = let s : slot n ≡ slot h = eqb-true (slot n) (slot h) t in
+          (rw s (getD-set-same m (slot h) 0 0 (omega arith))) ∙ same n q b e s (eqb h n) refl
+      go n q b e false t = let s = eqb-false (slot n) (slot h) t in getD-set-other m (slot h) (slot n) 0 0 s ∙ other n b e s (eqb h n) refl
+
+  -- or it was not
+  pub strike-no : (getD m (slot h) 0 ≡ h → ⊥) → Struck (h ∷ []) m m
+  strike-no out = record { at = λ n q b e. go n b e (eqb h n) refl ∙ ap (λ (x : Bool). left (b || x) n) (sym (held-one n h)) }
+    where
+      go : (n : ℕ) (b : Bool) → getD m (slot n) 0 ≡ left b n → (d : Bool) → eqb h n ≡ d → getD m (slot n) 0 ≡ left (b || d) n
+      go n true e d t = e
+      go n false e true t = let x : h ≡ n = eqb-true h n t in absurd (out (ap (λ (i : ℕ). getD m (slot i) 0) x ∙ (e ∙ sym x)))
+      go n false e false t = e
+
+-- the column, one number more
+pub column-more : (w : List ℕ) (start width i : ℕ) → column w start width (i + 1) ≡ column w start width i ++ getD w (start + width * i) 0 ∷ []
+unfolding column
+column-more w start width i = rw add-one
+
+pub column-none : (w : List ℕ) (start width : ℕ) → column w start width 0 ≡ []
+unfolding column
+column-none w start width = refl
+
+-- ---- what was found
+
+module _ {ks ps ns m m′ held : List ℕ} (c : Columns ks ps ns) where
+  pub found : Listed ks ps ns m → Struck held m m′ → Found ks ps ns m′ held
+  unfolding offsetOf
+  found l s = record {
+    at = λ i q e.
+        let k = first-name (getD ks i 0) (getD ps i 0) (getD ns i 0) e in
+        let o = first-place (getD ks i 0) (getD ps i 0) (getD ns i 0) e in
+        let p : slot (getD ns i 0) ≡ getD ps i 0 = (let a = c .within i q in omega arith) in
+        let z = c .some i k in
+        let r : getD m (slot (getD ns i 0)) 0 ≡ left false (getD ns i 0) = ap (λ (x : ℕ). getD m x 0) p ∙ l .at i q e in
+        let u : getD m′ (getD ps i 0) 0 ≡ left (isHeld (getD ns i 0) held) (getD ns i 0) = ap (λ (x : ℕ). getD m′ x 0) (sym p) ∙ s .at (getD ns i 0) z false r in
+        ap (λ (x : ℕ). eqb x 0) u ∙ zero? (getD ns i 0) z (isHeld (getD ns i 0) held);
+  }
+    where
+      zero? : (n : ℕ) → 0 < n → (b : Bool) → eqb (left b n) 0 ≡ b
+      zero? n z true = refl
+      zero? n z false = ne-eqb n 0 (λ y. omega arith)
+
+pub strike-more : (w : List ℕ) (start width i at : ℕ) {m₀ m m′ : List ℕ} → at ≡ start + width * i → Struck (column w start width i) m₀ m → Struck (getD w at 0 ∷ []) m m′ → Struck (column w start width (i + 1)) m₀ m′
+strike-more w start width i at e f g = rw column-more (struck-on f (rw e at g))
+
+pub strike-end : (w : List ℕ) (start width i count : ℕ) {m₀ m : List ℕ} → i ≤ count → count ≤ i → Struck (column w start width i) m₀ m → Struck (column w start width count) m₀ m
+strike-end w start width i count p q f = let e : i ≡ count = omega arith in rw e at f

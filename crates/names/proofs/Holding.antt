@@ -1,0 +1,95 @@
+-- The columns of names in the lent slice are the names that the table's entries hold. Assumes nothing.
+use mathlib.Core.Path.{_≡_, refl, ap, _∙_}
+use mathlib.Core.List.{List, [], _++_, map, map-append, append-assoc}
+use Prim.Native.Nat.{ℕ, zero, suc, _+_, _*_, _≤_, _<_}
+use native.Mathlib.Omega.{arith}
+use lib.IntN.{ℤ}
+use lib.ListN.{length, getD, take, length-append}
+use lib.Seq.{take-suc, take-length}
+use Rattle.definition.specs.Limit.{maxRows, maxMembers, maxValues, maxParameters, maxDeclarations, maxNames}
+use Rattle.definition.specs.Row.{void, rowName}
+use Rattle.definition.specs.Table.{Table, Member, Value, Parameter, Declaration, noStorage, storageNumber}
+use Rattle.definition.specs.NameTable.{heldNames}
+use Rattle.definition.specs.Lent.{padded, flat, rowWords, memberWords, valueWords, parameterWords, declarationWords, tableWords, words}
+use Rattle.laws.proofs.Left.{padded-length, flat-length}
+use Rattle.table.specs.Held.{readingWords, noMember, noValue, noParameter, Fits, Counts, InWords, Held}
+use Rattle.table.specs.declared.Cursor.{Cursor}
+use Rattle.table.proofs.Regions.{row-word, member-word, value-word, parameter-word}
+use Rattle.table.proofs.Flat.{region-get}
+use Rattle.definition.specs.Token.{Lexed}
+use Rattle.definition.specs.NameTable.{namesAmong, nameTable}
+use Rattle.names.specs.Names.{HeldWords, ColumnsOf, NamesIn}
+use Rattle.names.specs.Striking.{column, Struck, Filled}
+use Rattle.names.proofs.Crossing.{struck-on}
+use Rattle.names.proofs.Filling.{names-at}
+
+-- a column of every entry's numbers
+column-is : {A : Type 0} (f : A → ℕ) (d : A) (w : List ℕ) (start width : ℕ) (xs : List A) → ((i : ℕ) → i < length xs → getD w (start + width * i) 0 ≡ f (getD xs i d))
+    → (n : ℕ) → n ≡ length xs → column w start width n ≡ map f xs
+unfolding column
+column-is {A} f d w start width xs h n e = rw e (go (length xs) (omega arith) ∙ ap (λ (l : List A). map f l) (take-length xs))
+  where
+    go : (i : ℕ) → i ≤ length xs → column w start width i ≡ map f (take i xs)
+    go zero q = refl
+    go (suc i) q = rw (take-suc xs i d (omega arith), map-append f, go i (omega arith), h i (omega arith))
+
+abbrev noDeclaration : Declaration
+noDeclaration = record { storage = noStorage; type = 0; name = 0 }
+
+module _ (t : Table) where
+  abbrev beforeDeclarations : List ℕ
+  beforeDeclarations = padded 0 (6 * maxRows) (flat rowWords (t .rows)) ++ (padded 0 (4 * maxMembers) (flat memberWords (t .members))
+      ++ (padded 0 (2 * maxValues) (flat valueWords (t .values)) ++ padded 0 (3 * maxParameters) (flat parameterWords (t .parameters))))
+
+  abbrev declarationPart : List ℕ
+  declarationPart = padded 0 (3 * maxDeclarations) (flat declarationWords (t .declarations))
+
+  split : tableWords t ≡ beforeDeclarations ++ declarationPart
+  unfolding tableWords
+  split = simp append-assoc
+
+  split-words : readingWords t ≡ beforeDeclarations ++ (declarationPart ++ padded 0 (2 * maxNames) [])
+  unfolding readingWords words flat
+  split-words = ap (λ (l : List ℕ). l ++ padded 0 (2 * maxNames) []) split ∙ append-assoc beforeDeclarations declarationPart (padded 0 (2 * maxNames) [])
+
+  module _ (f : Fits t) where
+    declarations-at : length beforeDeclarations ≡ 43008
+    declarations-at =
+        let a = names-at t f in
+        let b : length declarationPart ≡ 3 * maxDeclarations = padded-length 0 (3 * maxDeclarations) (flat declarationWords (t .declarations)) (omega (arith, f .declarations, flat-length declarationWords 3 (λ x. refl) (t .declarations))) in
+        omega (arith, ap length split, length-append beforeDeclarations declarationPart)
+
+    declaration-word : (i j b : ℕ) → i < maxDeclarations → j < 3 → b ≡ 43008 + (3 * i + j) → getD (readingWords t) b 0 ≡ getD (declarationWords (getD (t .declarations) i noDeclaration)) j 0
+    unfolding storageNumber
+    declaration-word i j b p q e = ap (λ (l : List ℕ). getD l b 0) split-words
+        ∙ region-get declarationWords 3 (λ y. refl) 0 43008 (3 * maxDeclarations) beforeDeclarations (padded 0 (2 * maxNames) []) declarations-at noDeclaration (t .declarations) i j b e q (omega arith) (omega (arith, f .declarations)) refl
+
+pub all-struck : (t : Table) (c : Cursor) (w : List ℕ) {m m₁ m₂ m₃ m₄ m₅ : List ℕ} → Counts t c → InWords t w
+    → Struck (column w 3 6 (c .rows)) m m₁ → Struck (column w 6146 4 (c .members)) m₁ m₂ → Struck (column w 22529 2 (c .values)) m₂ m₃
+    → Struck (column w 30722 3 (c .parameters)) m₃ m₄ → Struck (column w 43010 3 (c .declarations)) m₄ m₅ → Struck (heldNames t) m m₅
+unfolding heldNames
+all-struck t c w k h a b e f g =
+    let r : column w 3 6 (c .rows) ≡ map rowName (t .rows)
+    = column-is rowName void w 3 6 (t .rows) (λ i l. rw (h .are) (row-word t (h .fits) i 3 (3 + 6 * i) (omega (arith, h .fits .rows)) (omega arith) (omega arith))) (c .rows) (k .rows) in
+    let s : column w 6146 4 (c .members) ≡ map (λ (x : Member). x .name) (t .members)
+    = column-is (λ (x : Member). x .name) noMember w 6146 4 (t .members) (λ i l. rw (h .are) (member-word t (h .fits) i 2 (6146 + 4 * i) (omega (arith, h .fits .members)) (omega arith) (omega arith))) (c .members) (k .members) in
+    let u : column w 22529 2 (c .values) ≡ map (λ (x : Value). x .name) (t .values)
+    = column-is (λ (x : Value). x .name) noValue w 22529 2 (t .values) (λ i l. rw (h .are) (value-word t (h .fits) i 1 (22529 + 2 * i) (omega (arith, h .fits .values)) (omega arith) (omega arith))) (c .values) (k .values) in
+    let p : column w 30722 3 (c .parameters) ≡ map (λ (x : Parameter). x .name) (t .parameters)
+    = column-is (λ (x : Parameter). x .name) noParameter w 30722 3 (t .parameters) (λ i l. rw (h .are) (parameter-word t (h .fits) i 2 (30722 + 3 * i) (omega (arith, h .fits .parameters)) (omega arith) (omega arith))) (c .parameters) (k .parameters) in
+    let d : column w 43010 3 (c .declarations) ≡ map (λ (x : Declaration). x .name) (t .declarations)
+    = column-is (λ (x : Declaration). x .name) noDeclaration w 43010 3 (t .declarations) (λ i l. rw (h .are) (declaration-word t (h .fits) i 2 (43010 + 3 * i) (omega (arith, h .fits .declarations)) (omega arith) (omega arith))) (c .declarations) (k .declarations) in
+    struck-on (struck-on (struck-on (struck-on (rw r at a) (rw s at b)) (rw u at e)) (rw p at f)) (rw d at g)
+
+-- of a text with these columns
+pub named : {x : Lexed} {ks ps ns w : List ℕ} {t : Table} {r : ℕ} → ColumnsOf x ks ps ns → Filled ks ps ns t r w → NamesIn x t r w
+unfolding nameTable
+named {x} {ks} {ps} {ns} {t = t} k f =
+    let e : namesAmong (heldNames t) ks ps ns ≡ nameTable x t
+    = ap (λ (l : List ℕ). namesAmong (heldNames t) l ps ns) (k .kinds) ∙ (ap (λ (l : List ℕ). namesAmong (heldNames t) (x .tokens .kinds) l ns) (k .places)
+    ∙ ap (λ (l : List ℕ). namesAmong (heldNames t) (x .tokens .kinds) (x .places) l) (k .numbers)) in
+    record { are = f .are ∙ ap (λ (l : List ℕ). words (record { table = t; names = l })) e; count = f .count ∙ ap (λ (l : List ℕ). length l) e }
+
+-- what the parser leaves
+pub held-words : {c : Cursor} {w d : List ℕ} {v : List ℤ} → Held c w d v → HeldWords c w
+held-words h = record { table = h .table; counts = h .encodes .counts; words = h .encodes .words; long = h .long .words; room = h .room }

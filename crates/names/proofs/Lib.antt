@@ -1,0 +1,3 @@
+pub mod Crossing
+pub mod Filling
+pub mod Holding

@@ -1,0 +1,57 @@
+-- How the code finds the names that are held: they are listed at their first place, and struck out where an entry holds them.
+use mathlib.Core.Path.{_≡_}
+use mathlib.Core.Bool.{Bool, true, false, _||_}
+use mathlib.Core.List.{List, [], _∷_, _++_}
+use Prim.Native.Nat.{ℕ, zero, suc, _+_, _*_, _%_, _<_}
+use lib.Dec.{eqb}
+use lib.ListN.{length, getD}
+use Rattle.definition.specs.Limit.{maxText}
+use Rattle.definition.specs.Table.{Table}
+use Rattle.definition.specs.NameTable.{heldNames, isHeld, namesAmong}
+use Rattle.definition.specs.Lent.{words}
+use Rattle.table.specs.Held.{Counts, InWords}
+use Rattle.table.specs.declared.Cursor.{Cursor}
+use Rattle.laws.specs.Columns.{Columns}
+use Rattle.names.specs.Names.{isFirst}
+
+-- the first so many of a column: every number from a place on, in steps of a width
+unfoldable pub column : List ℕ → ℕ → ℕ → ℕ → List ℕ
+column w start width zero = []
+column w start width (suc i) = column w start width i ++ getD w (start + width * i) 0 ∷ []
+
+-- every name at its first place is listed there
+pub record Listed (ks ps ns m : List ℕ) : Type 0 where
+  pub at : (i : ℕ) → i < length ks → isFirst (getD ks i 0) (getD ps i 0) (getD ns i 0) ≡ true → getD m (getD ps i 0) 0 ≡ getD ns i 0
+
+-- where a name is listed
+abbrev pub slot : ℕ → ℕ
+slot n = n % maxText
+
+-- what stands there: the name, or 0 where it was struck out
+abbrev pub left : Bool → ℕ → ℕ
+left b n = elim b [ true ↦ 0 | false ↦ n ]
+
+-- the names hs were struck out, and no others
+pub record Struck (hs m m′ : List ℕ) : Type 0 where
+  pub at : (n : ℕ) → 0 < n → (b : Bool) → getD m (slot n) 0 ≡ left b n → getD m′ (slot n) 0 ≡ left (b || isHeld n hs) n
+
+pub record Strikes (w : List ℕ) (c : Cursor) (m m′ : List ℕ) : Type 0 where
+  pub run : (t : Table) → Counts t c → InWords t w → Struck (heldNames t) m m′
+
+-- a name at its first place was struck out where it is held
+pub record Found (ks ps ns m held : List ℕ) : Type 0 where
+  pub at : (i : ℕ) → i < length ks → isFirst (getD ks i 0) (getD ps i 0) (getD ns i 0) ≡ true → eqb (getD m (getD ps i 0) 0) 0 ≡ isHeld (getD ns i 0) held
+
+pub record Ready (ks ps ns m w : List ℕ) : Type 0 where
+  pub columns : Columns ks ps ns
+  pub long : length m ≡ maxText
+  pub table : Table
+  pub words : InWords table w
+  pub found : Found ks ps ns m (heldNames table)
+
+pub record Filled (ks ps ns : List ℕ) (t : Table) (r : ℕ) (w : List ℕ) : Type 0 where
+  pub are : w ≡ words (record { table = t; names = namesAmong (heldNames t) ks ps ns })
+  pub count : r ≡ length (namesAmong (heldNames t) ks ps ns)
+
+pub record Fills (ks ps ns m w : List ℕ) (r : ℕ) (w′ : List ℕ) : Type 0 where
+  pub run : (t : Table) → InWords t w → Found ks ps ns m (heldNames t) → Filled ks ps ns t r w′

@@ -1,0 +1,160 @@
+// The names of a table, written into the lent slice when the text is read. Each name of the text is listed at its first place; those that an entry holds
+// are struck out; the ones struck out are written, in the order of the tokens.
+use table::Cursor;
+use table::DECLARATION_WORDS;
+use table::DECLARATIONS_AT;
+use table::MEMBER_WORDS;
+use table::MEMBERS_AT;
+use table::PARAMETER_WORDS;
+use table::PARAMETERS_AT;
+use table::ROW_WORDS;
+use table::VALUE_WORDS;
+use table::VALUES_AT;
+use words::classes::is_name;
+ghost use mathlib.Core.Path.{_≡_};
+ghost use mathlib.Core.Bool.{_&&_};
+ghost use Prim.Native.Nat.{_+_, _*_, _≤_, _<_};
+ghost use lib.Dec.{eqb};
+ghost use lib.ListN.{length, getD};
+ghost use Rattle.definition.specs.Lent.{wordsLength};
+ghost use Rattle.table.specs.Held.{Room};
+ghost use Rattle.laws.specs.Columns.{Columns};
+ghost use Rattle.names.specs.Names.{isFirst, HeldWords, Writes};
+ghost use Rattle.names.specs.Striking.{column, Listed, Struck, Strikes, Ready, Fills};
+
+// A text has at most as many bytes.
+pub const MAX_TEXT: usize = 32768;
+
+pub const NAMES_AT: usize = 46080;
+
+pub const NAME_WORDS: usize = 2;
+
+// A name is this times its length, and its offset.
+const NAME_LENGTH: u64 = 65536;
+
+// Where the name stands among the numbers of an entry.
+const ROW_NAME: usize = 3;
+
+const MEMBER_NAME: usize = 2;
+
+const VALUE_NAME: usize = 1;
+
+const PARAMETER_NAME: usize = 2;
+
+const DECLARATION_NAME: usize = 2;
+
+// A token is a name at the first place of its spelling.
+fn is_first(kind: u32, place: u32, number: u64) -> bool
+    ensures { λ r. ⌜ r ≡ isFirst kind place number ⌝ }
+{
+    is_name(kind) & (number % NAME_LENGTH == place as u64)
+}
+
+// Lists each name of the text at its first place.
+fn list(kinds: &[u32], places: &[u32], numbers: &[u64], listed: &mut [u32])
+    requires { ⌜ Columns (now kinds) (now places) (now numbers) ⌝ }
+    requires { ⌜ length (now listed) ≡ 32768 ⌝ }
+    ensures { λ r. ⌜ Listed (now (kinds .entry)) (now (places .entry)) (now (numbers .entry)) (now (listed .exit)) ⌝ }
+{
+    let mut i = 0;
+    while i < kinds.len() {
+        let number = numbers[i];
+        let place = places[i];
+        if is_first(kinds[i], place, number) {
+            listed[place as usize] = number as u32;
+            i += 1;
+            continue;
+        }
+        i += 1;
+    }
+}
+
+// Strikes out the names of a region's entries. A name that is listed stands below 32,768, so that no other offset has to be told apart from it.
+fn strike(w: &[u32], start: usize, width: usize, count: usize, listed: &mut [u32])
+    requires { ⌜ 0 < width ⌝ }
+    requires { ⌜ start + width * count ≤ length (now w) ⌝ }
+    requires { ⌜ length (now listed) ≡ 32768 ⌝ }
+    ensures { λ r. ⌜ Struck (column (now (w .entry)) start width count) (now (listed .entry)) (now (listed .exit)) ⌝ }
+{
+    let mut at = start;
+    let mut i = 0;
+    while i < count {
+        let name = w[at];
+        let slot = (name as usize) % MAX_TEXT;
+        at += width;
+        i += 1;
+        if listed[slot] == name {
+            listed[slot] = 0;
+            continue;
+        }
+    }
+}
+
+// Strikes out every name that an entry holds.
+fn strike_all(w: &[u32], c: Cursor, listed: &mut [u32])
+    requires { ⌜ length (now w) ≡ wordsLength ⌝ }
+    requires { ⌜ Room c ⌝ }
+    requires { ⌜ length (now listed) ≡ 32768 ⌝ }
+    ensures { λ r. ⌜ Strikes (now (w .entry)) c (now (listed .entry)) (now (listed .exit)) ⌝ }
+{
+    strike(w, ROW_NAME, ROW_WORDS, c.rows, listed);
+    strike(w, MEMBERS_AT + MEMBER_NAME, MEMBER_WORDS, c.members, listed);
+    strike(w, VALUES_AT + VALUE_NAME, VALUE_WORDS, c.values, listed);
+    strike(
+        w,
+        PARAMETERS_AT + PARAMETER_NAME,
+        PARAMETER_WORDS,
+        c.parameters,
+        listed,
+    );
+    strike(
+        w,
+        DECLARATIONS_AT + DECLARATION_NAME,
+        DECLARATION_WORDS,
+        c.declarations,
+        listed,
+    );
+}
+
+// A token is a name at its first place, and was struck out.
+fn is_found(kind: u32, place: u32, number: u64, listed: &[u32]) -> bool
+    requires { ⌜ place < length (now listed) ⌝ }
+    ensures { λ r. ⌜ r ≡ (isFirst kind place number && eqb (getD (now (listed .entry)) place 0) 0) ⌝ }
+{
+    is_first(kind, place, number) & (listed[place as usize] == 0)
+}
+
+// Writes the names that were struck out; their number.
+fn write(kinds: &[u32], places: &[u32], numbers: &[u64], listed: &[u32], w: &mut [u32]) -> usize
+    requires { ⌜ Ready (now kinds) (now places) (now numbers) (now listed) (now w) ⌝ }
+    ensures { λ r. ⌜ Fills (now (kinds .entry)) (now (places .entry)) (now (numbers .entry)) (now (listed .entry)) (now (w .entry)) r (now (w .exit)) ⌝ }
+{
+    let mut count = 0;
+    let mut i = 0;
+    while i < kinds.len() {
+        let number = numbers[i];
+        let place = places[i];
+        if is_found(kinds[i], place, number, listed) {
+            let at = NAMES_AT + NAME_WORDS * count;
+            w[at] = place;
+            w[at + 1] = (number / NAME_LENGTH) as u32;
+            count += 1;
+            i += 1;
+            continue;
+        }
+        i += 1;
+    }
+    count
+}
+
+// Fills the names' part of the slice with the names that the table's entries hold; their number. The columns are those of a text's tokens.
+pub fn fill_names(kinds: &[u32], places: &[u32], numbers: &[u64], w: &mut [u32], c: Cursor) -> usize
+    requires { ⌜ Columns (now kinds) (now places) (now numbers) ⌝ }
+    requires { ⌜ HeldWords c (now w) ⌝ }
+    ensures { λ r. ⌜ Writes (now (kinds .entry)) (now (places .entry)) (now (numbers .entry)) c (now (w .entry)) r (now (w .exit)) ⌝ }
+{
+    let mut listed = [0u32; MAX_TEXT];
+    list(kinds, places, numbers, &mut listed);
+    strike_all(w, c, &mut listed);
+    write(kinds, places, numbers, &listed, w)
+}
