@@ -10,10 +10,10 @@ use Rattle.definition.specs.Text.{Bytes, byteAt}
 use Rattle.definition.specs.Number.{inRange}
 use Rattle.definition.specs.Character.{Read, escaped, hexByte, escape, oneByte, closedAt, bytesFrom, characterAt}
 use Rattle.scan.proofs.Branch.{eq+, eq-, le+, le-}
-use Rattle.literals.proofs.Capped.{range-of, range-past}
+use Rattle.literals.proofs.Capped.{capped-step, range-of, range-past}
 use Rattle.literals.specs.declared.Reading.{Reading}
 use Rattle.literals.specs.declared.Reading.the-variants.{Got, Refused}
-use Rattle.literals.specs.Shown.{read, Caps, Adds}
+use Rattle.literals.specs.Shown.{read, capped}
 use Rattle.characters.specs.Reads.{Reads}
 
 pub reads-by : {a b : Answer Read} {at end : ℕ} {r : Reading} → a ≡ b → Reads b at end r → Reads a at end r
@@ -58,13 +58,13 @@ module _ (text : Bytes) (start at : ℕ) where
   unfolding oneByte
   byte-plain e = eq- _ _ _ _ e
 
-pub closed-in : (v w start at : ℕ) → Caps v w → v < 2 ^ 63 → closedAt start w at ≡ got (record { value = v; next = at + 1 })
+pub closed-in : (v w start at : ℕ) → v ≡ capped w → v < 2 ^ 63 → closedAt start w at ≡ got (record { value = v; next = at + 1 })
 unfolding _>>=_
-closed-in v w start at k h = rw (range-of start k h)
+closed-in v w start at k h = rw (range-of v w start k h)
 
-pub closed-past : (v w start at : ℕ) → Caps v w → 2 ^ 63 ≤ v → closedAt start w at ≡ refused 8 start
+pub closed-past : (v w start at : ℕ) → v ≡ capped w → 2 ^ 63 ≤ v → closedAt start w at ≡ refused 8 start
 unfolding _>>=_
-closed-past v w start at k h = rw (range-past start k h)
+closed-past v w start at k h = rw (range-past v w start k h)
 
 pub next-of : {v w n m : ℕ} → Got v n ≡ Got w m → m ≡ n
 next-of q = cc
@@ -77,7 +77,7 @@ pub record Going (text : Bytes) (start i v : ℕ) (whole : Answer Read) : Type 0
   pub exact : ℕ
   pub rounds : ℕ
   pub enough : length text - i < rounds
-  pub caps : Caps v exact
+  pub caps : v ≡ capped exact
   pub same : whole ≡ bytesFrom rounds text start exact i
 
 round : (text : Bytes) (start i n e : ℕ) → length text - i < n → bytesFrom n text start e i ≡ bytesFrom (suc (n - 1)) text start e i
@@ -103,13 +103,13 @@ module _ (text : Bytes) (start i v : ℕ) {whole : Answer Read} where
     going-stops g e n p q = rw q at (goes g e)
 
     pub going-on : (g : Going text start i v whole) → (byteAt text i ≡ 39 → ⊥) → (b next v′ : ℕ) → oneByte text start i ≡ got (record { value = b; next = next })
-        → i < next → Adds v 256 b v′ → Going text start next v′ whole
+        → i < next → b < 256 → v′ ≡ capped (v * 256 + b) → Going text start next v′ whole
     unfolding _>>=_
-    going-on g e b next v′ q h a = record {
+    going-on g e b next v′ q h l a = record {
       exact = g .exact * 256 + b;
       rounds = g .rounds - 1;
       enough = (let k = g .enough in omega arith);
-      caps = a .adds _ (g .caps);
+      caps = a ∙ capped-step 256 b l v _ (g .caps);
       same = rw q at (goes g e);
     }
 
@@ -117,6 +117,6 @@ pub character-empty : (text : Bytes) (start : ℕ) → byteAt text (start + 1) �
 unfolding characterAt
 character-empty text start e = eq+ _ _ _ _ e
 
-pub character-starts : (text : Bytes) (start : ℕ) → (byteAt text (start + 1) ≡ 39 → ⊥) → Caps 0 0 → Going text start (start + 1) 0 (characterAt text start)
+pub character-starts : (text : Bytes) (start : ℕ) → (byteAt text (start + 1) ≡ 39 → ⊥) → _≡_ {A = ℕ} 0 (capped 0) → Going text start (start + 1) 0 (characterAt text start)
 unfolding characterAt
 character-starts text start e k = record { exact = 0; rounds = suc (length text); enough = omega arith; caps = k; same = eq- _ _ _ _ e }

@@ -8,7 +8,7 @@ ghost use Prim.Native.Nat.{ℕ, _+_, _≤_, _<_};
 ghost use lib.ListN.{length};
 ghost use Rattle.definition.specs.Text.{byteAt};
 ghost use Rattle.definition.specs.Character.{escaped, hexByte, escape, oneByte, closedAt, characterAt};
-ghost use Rattle.literals.specs.Shown.{read, Caps};
+ghost use Rattle.literals.specs.Shown.{read};
 ghost use Rattle.characters.specs.Reads.{Reads, Closes, Closed, Constant};
 
 const LIMIT: u64 = 9223372036854775808;

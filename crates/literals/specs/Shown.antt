@@ -1,7 +1,7 @@
 -- What the answers of the code are in the definition.
-use mathlib.Core.Path.{_≡_}
-use mathlib.Core.Logic.{_⊎_}
-use Prim.Native.Nat.{ℕ, _+_, _*_, _^_, _≤_, _<_}
+use mathlib.Core.Bool.{Bool, true, false}
+use Prim.Native.Nat.{ℕ, _^_}
+use lib.Dec.{ltb}
 use Rattle.definition.specs.Answer.{Answer, got, refused}
 use Rattle.definition.specs.Character.{Read}
 use Rattle.literals.specs.declared.Value.{Value}
@@ -18,9 +18,5 @@ read (Reading·Got v next) = got (record { value = v; next = next })
 read (Reading·Refused n at) = refused n at
 
 -- what stands for a value: the value itself, or 2^63 for any that is too large
-pub record Caps (c v : ℕ) : Type 0 where
-  pub caps : ((c ≡ v) × (v < 2 ^ 63)) ⊎ ((c ≡ 2 ^ 63) × (2 ^ 63 ≤ v))
-
--- one digit more
-pub record Adds (c base d r : ℕ) : Type 0 where
-  pub adds : (v : ℕ) → Caps c v → Caps r (v * base + d)
+unfoldable pub capped : ℕ → ℕ
+capped v = elim (ltb v (2 ^ 63)) [ true ↦ v | false ↦ 2 ^ 63 ]

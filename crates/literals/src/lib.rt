@@ -2,12 +2,12 @@
 use scan::byte_at;
 ghost use mathlib.Core.Path.{_≡_};
 ghost use mathlib.Core.Bool.{Bool};
-ghost use Prim.Native.Nat.{ℕ, _+_, _≤_, _<_};
+ghost use Prim.Native.Nat.{ℕ, _+_, _*_, _≤_, _<_};
 ghost use Rattle.definition.specs.Text.{byteAt};
 ghost use Rattle.definition.specs.Class.{among};
 ghost use Rattle.definition.specs.Number.{digitValue, suffixBytes, bodyLength, digitsValue, bodyValue, numberValue};
 ghost use Rattle.definition.specs.Character.{escaped, hexByte, escape, oneByte, bytesFrom, characterAt};
-ghost use Rattle.literals.specs.Shown.{value, read, Adds};
+ghost use Rattle.literals.specs.Shown.{value, capped};
 
 // 2^63: the first value that is too large, and what stands for all of those.
 pub const LIMIT: u64 = 9223372036854775808;
@@ -96,8 +96,8 @@ pub fn body_length(word: &[u8]) -> usize
 
 // One digit more, where all that is too large stands as LIMIT.
 pub fn add_digit(v: u64, base: u64, d: u64) -> u64
-    requires { ⌜ (v ≤ 9223372036854775808) × (d < base) × (base ≤ 256) ⌝ }
-    ensures { λ r. ⌜ Adds v base d r ⌝ }
+    requires { ⌜ (d < base) × (base ≤ 256) ⌝ }
+    ensures { λ r. ⌜ r ≡ capped (v * base + d) ⌝ }
 {
     if (LIMIT - 1 - d) / base < v {
         return LIMIT;

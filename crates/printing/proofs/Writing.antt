@@ -60,7 +60,7 @@ module _ {xs o : Bytes} {n : ℕ} {o₁ : Bytes} {n₁ : ℕ} (p : Wrote xs o n 
 
 -- ---- lines
 
-line-words : (w : Bytes) (vs : List Bytes) → parted w vs ≡ w ++ words vs
+pub line-words : (w : Bytes) (vs : List Bytes) → parted w vs ≡ w ++ words vs
 unfolding parted words
 line-words w [] = sym (append-nil w)
   where
@@ -85,6 +85,35 @@ a-word p q = record { wrote = then p (q .wrote) }
 
 pub last-word : {v o o₁ : Bytes} {n n₁ : ℕ} → Wrote (space ∷ v) o n o₁ n₁ → WroteWords (v ∷ []) o n o₁ n₁
 last-word p = a-word p no-word
+
+-- a word or words in other terms
+pub word-as : {u v o o₁ : Bytes} {n n₁ : ℕ} → Wrote (space ∷ v) o n o₁ n₁ → u ≡ v → Wrote (space ∷ u) o n o₁ n₁
+word-as p e = as-is p (ap (λ l. space ∷ l) (sym e))
+
+pub words-as : {us vs : List Bytes} {o o₁ : Bytes} {n n₁ : ℕ} → WroteWords vs o n o₁ n₁ → us ≡ vs → WroteWords us o n o₁ n₁
+words-as p e = rw e p
+
+words-append : (us vs : List Bytes) → words (us ++ vs) ≡ words us ++ words vs
+unfolding words
+words-append [] vs = refl
+words-append (u ∷ us) vs = ap (λ l. space ∷ l) (ap (λ l. u ++ l) (words-append us vs) ∙ sym (append-assoc u (words us) (words vs)))
+
+pub words-then : {us vs : List Bytes} {o o₁ o₂ : Bytes} {n n₁ n₂ : ℕ} → WroteWords us o n o₁ n₁ → WroteWords vs o₁ n₁ o₂ n₂ → WroteWords (us ++ vs) o n o₂ n₂
+words-then {us} {vs} p q = record { wrote = as-is (then (p .wrote) (q .wrote)) (sym (words-append us vs)) }
+
+-- a line without its end, and the rest of it
+pub a-head : {w : Bytes} {vs : List Bytes} {o o₁ o₂ : Bytes} {n n₁ n₂ : ℕ} → Wrote w o n o₁ n₁ → WroteWords vs o₁ n₁ o₂ n₂ → Wrote (parted w vs) o n o₂ n₂
+a-head {w} {vs} p q = as-is (then p (q .wrote)) (sym (line-words w vs))
+
+parted-append : (w : Bytes) (us vs : List Bytes) → parted w us ++ words vs ≡ parted w (us ++ vs)
+parted-append w us vs =
+    ap (λ l. l ++ words vs) (line-words w us)
+    ∙ (append-assoc w (words us) (words vs) ∙ (ap (λ l. w ++ l) (sym (words-append us vs)) ∙ sym (line-words w (us ++ vs))))
+
+pub line-after : (w : Bytes) (us : List Bytes) {vs : List Bytes} {o o₁ o₂ o₃ : Bytes} {n n₁ n₂ n₃ : ℕ}
+    → Wrote (parted w us) o n o₁ n₁ → WroteWords vs o₁ n₁ o₂ n₂ → Wrote (lineFeed ∷ []) o₂ n₂ o₃ n₃ → Wrote (line w (us ++ vs)) o n o₃ n₃
+unfolding line
+line-after w us {vs} p q r = as-is (then (then p (q .wrote)) r) (ap (λ l. l ++ lineFeed ∷ []) (parted-append w us vs))
 
 -- ---- loops: the whole is what is left to write from here
 

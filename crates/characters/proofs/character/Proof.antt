@@ -27,8 +27,8 @@ use Rattle.scan.proofs.Branch.{yes!, nay!, eq+, eq-, lt+, lt-, le+, le-, both, 
 use Rattle.scan.proofs.Going.{inside, outside, first-from, second-from, from-cons, from-end, tail-part}
 use Rattle.definition.specs.Answer.{Answer, got, refused}
 use Rattle.definition.specs.Character.{Read, endsHex, escaped, hexByte, escape, oneByte, closedAt, bytesFrom, characterAt}
-use Rattle.literals.proofs.Capped.{capped-zero, cap-bound}
-use Rattle.literals.specs.Shown.{read, Caps, Adds}
+use Rattle.literals.proofs.Capped.{capped-zero}
+use Rattle.literals.specs.Shown.{read, capped}
 use Rattle.literals.specs.declared.Reading.the-variants.{Got, Refused}
 use Rattle.scan.proofs.Going.{stopped, going, ended}
 use Rattle.characters.specs.Reads.{Reads, Closes, Closed, Constant}
@@ -81,14 +81,14 @@ returns-3 c = let t = c .enum-told .given .1 in let q = ap read t in record {
 }
 
 add-digit-requires : tie.Need-add-digit-requires Inv-loop μ-loop
-add-digit-requires c κs = (cap-bound (c .before .before .before .before .before .before .before .loop .inv .2 .caps), c .before .before .before .one-byte .ensures .goes _ _ (c .before .r .given .1) .0, omega arith)
+add-digit-requires c κs = (c .before .before .before .one-byte .ensures .goes _ _ (c .before .r .given .1) .0, omega arith)
 
 loop-less : tie.Need-loop-less Inv-loop μ-loop
 loop-less c = let g = c .before .before .before .before .one-byte .ensures .goes _ _ (c .before .before .r .given .1) in omega (arith, g .1, g .2, c .before .before .before .before .before .before .before .loop-test .taken)
 
 loop-again : tie.Need-loop-again Inv-loop μ-loop
 loop-again c = let q = c .before .before .r .given .1 in let g = c .before .before .before .before .one-byte .ensures .goes _ _ q in
-    (g .2, omega (arith, g .1, c .before .before .before .before .before .before .before .before .loop .inv .1), going-on (c .before .before .before .before .before .before .before .before .before .before .before .before .args .text .now) _ _ _ (c .before .before .before .before .before .before .before .loop-test .taken) (c .before .before .before .before .before .before .before .before .loop .inv .2) (λ e. c .before .before .before .before .before .if2 .left (c .before .before .before .before .before .before .byte-at2 .ensures ∙ e)) _ _ _ (sym (c .before .before .before .before .one-byte .ensures .same) ∙ ap read q) (omega (arith, g .1)) (c .add-digit .ensures))
+    (g .2, omega (arith, g .1, c .before .before .before .before .before .before .before .before .loop .inv .1), going-on (c .before .before .before .before .before .before .before .before .before .before .before .before .args .text .now) _ _ _ (c .before .before .before .before .before .before .before .loop-test .taken) (c .before .before .before .before .before .before .before .before .loop .inv .2) (λ e. c .before .before .before .before .before .if2 .left (c .before .before .before .before .before .before .byte-at2 .ensures ∙ e)) _ _ _ (sym (c .before .before .before .before .one-byte .ensures .same) ∙ ap read q) (omega (arith, g .1)) (g .0) (c .add-digit .ensures))
 
 returns-4 : tie.Need-returns-4 Inv-loop μ-loop
 returns-4 c = record { same = sym (going-ends (c .before .before .before .before .before .args .text .now) _ _ _ (c .before .loop .inv .2) (c .loop-test .left)); goes = λ v next q. never-got q }

@@ -24,9 +24,9 @@ use Rattle.definition.specs.Number.{isNumberByte, endsNumber}
 use Rattle.definition.specs.Number.{digitValue, suffixBytes, bodyLength, areDigits, valueFrom, inRange, digitsValue, baseOf, bodyValue, numberValue}
 use Rattle.scan.proofs.Branch.{yes!, nay!, eq+, eq-, lt+, lt-, le+, le-, both, not-first, not-second, either-first, either-second, neither}
 use Rattle.scan.proofs.Going.{inside, outside, first-from, second-from, from-cons, from-end}
-use Rattle.literals.specs.Shown.{value, read, Caps, Adds}
+use Rattle.literals.specs.Shown.{value, read, capped}
 use Rattle.literals.proofs.Digits.{below-digits, decimal, below-capitals, capital, below-small, small, above, no-suffix, a-suffix, body-goes, body-stops, value-more, digits-more, digits-bad, digits-none, digits-malformed, digits-fine}
-use Rattle.literals.proofs.Capped.{over, product, fits, capped-zero, cap-bound, range-of, range-past, caps-next, all-caps, all-digits}
+use Rattle.literals.proofs.Capped.{over, product, fits, capped-zero, range-of, range-past, caps-next, all-caps, all-digits}
 
 sub-if1 : tie.Need-sub-if1
 sub-if1 c = search needs
@@ -38,16 +38,16 @@ div-if1 : tie.Need-div-if1
 div-if1 c = search needs
 
 returns : tie.Need-returns
-returns c = over _ _ _ (c .before .pre .1) (c .before .pre .2) (c .if1 .taken)
+returns c = over _ _ (c .before .pre .0) _ (c .before .pre .1) (c .if1 .taken)
 
 mul-result : tie.Need-mul-result
-mul-result c = let p = product _ _ _ (c .before .pre .1) (c .before .pre .2) (c .if1 .left) in record { fits = omega arith }
+mul-result c = let p = product _ _ (c .before .pre .0) _ (c .before .pre .1) (c .if1 .left) in record { fits = omega arith }
 
 add-result : tie.Need-add-result
-add-result c = let p = product _ _ _ (c .before .pre .1) (c .before .pre .2) (c .if1 .left) in record { fits = omega arith }
+add-result c = let p = product _ _ (c .before .pre .0) _ (c .before .pre .1) (c .if1 .left) in record { fits = omega arith }
 
 returns-2 : tie.Need-returns-2
-returns-2 c = fits _ _ _ (c .before .pre .1) (c .before .pre .2) (c .if1 .left)
+returns-2 c = fits _ _ (c .before .pre .0) _ (c .before .pre .1) (c .if1 .left)
 
 pub add-digit-spec : {M : Type 1} → statement M
 add-digit-spec =

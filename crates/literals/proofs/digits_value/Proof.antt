@@ -28,12 +28,12 @@ use Rattle.definition.specs.Number.{isNumberByte, endsNumber}
 use Rattle.definition.specs.Number.{digitValue, suffixBytes, bodyLength, areDigits, valueFrom, inRange, digitsValue, baseOf, bodyValue, numberValue}
 use Rattle.scan.proofs.Branch.{yes!, nay!, eq+, eq-, lt+, lt-, le+, le-, both, not-first, not-second, either-first, either-second, neither}
 use Rattle.scan.proofs.Going.{inside, outside, first-from, second-from, from-cons, from-end}
-use Rattle.literals.specs.Shown.{value, read, Caps, Adds}
+use Rattle.literals.specs.Shown.{value, read, capped}
 use Rattle.literals.proofs.Digits.{below-digits, decimal, below-capitals, capital, below-small, small, above, no-suffix, a-suffix, body-goes, body-stops, body-none, base-plain, base-short, base-hex, base-binary, base-octal, with-base, value-more, digits-more, digits-bad, digits-none, digits-malformed, digits-fine}
-use Rattle.literals.proofs.Capped.{over, product, fits, capped-zero, cap-bound, range-of, range-past, caps-next, all-caps, all-digits}
+use Rattle.literals.proofs.Capped.{over, product, fits, capped-zero, range-of, range-past, caps-next, all-caps, all-digits}
 
 abbrev Inv-loop : tie.InvT-loop
-Inv-loop digits base at v₀ i₀ v i = (i ≤ length digits) × (areDigits base (take i digits) ≡ true) × (Caps v (valueFrom base 0 (take i digits)))
+Inv-loop digits base at v₀ i₀ v i = (i ≤ length digits) × (areDigits base (take i digits) ≡ true) × (v ≡ capped (valueFrom base 0 (take i digits)))
 
 abbrev μ-loop : tie.MeasureT-loop
 μ-loop digits base at v₀ i₀ v i = length digits - i
@@ -61,7 +61,7 @@ wide-requires-2 : tie.Need-wide-requires-2 Inv-loop μ-loop
 wide-requires-2 c κs = search needs
 
 add-digit-requires : tie.Need-add-digit-requires Inv-loop μ-loop
-add-digit-requires c κs = (cap-bound (c .before .before .before .before .before .before .loop .inv .2), omega (arith, c .before .wide .ensures, c .wide2 .ensures, c .before .before .if2 .left), omega (arith, c .before .wide .ensures, c .before .before .before .before .before .before .before .before .before .pre .1))
+add-digit-requires c κs = (omega (arith, c .before .wide .ensures, c .wide2 .ensures, c .before .before .if2 .left), omega (arith, c .before .wide .ensures, c .before .before .before .before .before .before .before .before .before .pre .1))
 
 add-i : tie.Need-add-i Inv-loop μ-loop
 add-i c = search needs
@@ -71,13 +71,13 @@ loop-less c = search needs
 
 loop-again : tie.Need-loop-again Inv-loop μ-loop
 loop-again c = let e = c .before .before .before .before .digit-value .ensures ∙ ap digitValue (c .before .before .before .before .before .byte-at .ensures) in
-    (omega arith, digits-more _ (c .before .before .before .before .before .before .before .before .before .before .args .digits .now) (c .before .before .before .before .before .before .before .loop .i) (c .before .before .before .before .before .before .loop-test .taken) (c .before .before .before .before .before .before .before .loop .inv .1) (rw e at (c .before .before .before .if2 .left)), caps-next _ (c .before .before .before .before .before .before .before .before .before .before .args .digits .now) (c .before .before .before .before .before .before .before .loop .i) (c .before .before .before .before .before .before .loop-test .taken) (c .add-digit .ensures) (c .before .before .wide .ensures) (c .before .wide2 .ensures ∙ e) (c .before .before .before .before .before .before .before .loop .inv .2))
+    (omega arith, digits-more _ (c .before .before .before .before .before .before .before .before .before .before .args .digits .now) (c .before .before .before .before .before .before .before .loop .i) (c .before .before .before .before .before .before .loop-test .taken) (c .before .before .before .before .before .before .before .loop .inv .1) (rw e at (c .before .before .before .if2 .left)), caps-next _ (c .before .before .before .before .before .before .before .before .before .before .args .digits .now) (c .before .before .before .before .before .before .before .loop .i) (c .before .before .before .before .before .before .loop-test .taken) (omega (arith, c .before .before .wide .ensures, c .before .wide2 .ensures, c .before .before .before .if2 .left)) (c .add-digit .ensures) (c .before .before .wide .ensures) (c .before .wide2 .ensures ∙ e) (c .before .before .before .before .before .before .before .loop .inv .2))
 
 returns-3 : tie.Need-returns-3 Inv-loop μ-loop
-returns-3 c = sym (all-digits _ _ (c .before .before .before .before .before .args .digits .now) (omega arith) _ (c .before .loop-test .left) (c .before .before .loop .inv .1) ∙ range-of _ (all-caps _ (c .before .before .before .before .before .args .digits .now) _ (c .before .loop-test .left) (c .before .before .loop .inv .2)) (c .if3 .taken))
+returns-3 c = sym (all-digits _ _ (c .before .before .before .before .before .args .digits .now) (omega arith) _ (c .before .loop-test .left) (c .before .before .loop .inv .1) ∙ range-of _ _ _ (all-caps _ (c .before .before .before .before .before .args .digits .now) _ (c .before .loop-test .left) (c .before .before .loop .inv .2)) (c .if3 .taken))
 
 returns-4 : tie.Need-returns-4 Inv-loop μ-loop
-returns-4 c = sym (all-digits _ _ (c .before .before .before .before .before .args .digits .now) (omega arith) _ (c .before .loop-test .left) (c .before .before .loop .inv .1) ∙ range-past _ (all-caps _ (c .before .before .before .before .before .args .digits .now) _ (c .before .loop-test .left) (c .before .before .loop .inv .2)) (c .if3 .left))
+returns-4 c = sym (all-digits _ _ (c .before .before .before .before .before .args .digits .now) (omega arith) _ (c .before .loop-test .left) (c .before .before .loop .inv .1) ∙ range-past _ _ _ (all-caps _ (c .before .before .before .before .before .args .digits .now) _ (c .before .loop-test .left) (c .before .before .loop .inv .2)) (c .if3 .left))
 
 pub digits-value-spec : {M : Type 1} → statement M
 digits-value-spec =
