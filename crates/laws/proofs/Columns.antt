@@ -176,3 +176,7 @@ columns-short {ks} {ps} c = go (decLe (length ks) maxText)
     go : Dec (length ks ≤ maxText) → length ks ≤ maxText
     go (yes p) = p
     go (no p) = let q = lt-of-not-le p in let h = above maxText q in let r = c .within maxText q in absurd (omega arith)
+
+pub tokenize-end : (text : Bytes) → Every (λ (x : Lexed). x .textEnd ≡ length text) (tokenize text)
+unfolding columns
+tokenize-end text = record { of = λ x e. ap (λ (y : Lexed). y .textEnd) (tokenize-good text .of x e .is) }

@@ -128,18 +128,12 @@ fn put_name(
 }
 
 // Fills columns of zeros with the tokens of a text. Until all are read, a name's place has its link beside it.
-fn cut_all(
-    text: &[u8],
-    kinds: &mut [u32],
-    places: &mut [u32],
-    numbers: &mut [u64],
-    heads: &mut [u32],
-) -> Lexing
+fn cut_all(text: &[u8], kinds: &mut [u32], places: &mut [u32], numbers: &mut [u64]) -> Lexing
     requires { ⌜ Room (now text) (now kinds) (now places) (now numbers) ⌝ }
     requires { ⌜ Zero (now kinds) (now places) (now numbers) (now kinds) (now places) (now numbers) ⌝ }
-    requires { ⌜ now heads ≡ replicate 4096 0 ⌝ }
     ensures { λ r. ⌜ Fills (now (text .entry)) r (now (kinds .exit)) (map bare (now (places .exit))) (now (numbers .exit)) ⌝ }
 {
+    let mut heads = [0u32; HEADS];
     let mut at = 0;
     let mut line = true;
     let mut count = 0;
@@ -158,8 +152,8 @@ fn cut_all(
                 count += 1;
                 continue;
             }
-            Piece::Name(kind, to) => {
-                put_name(text, kinds, places, numbers, heads, count, kind, at, to);
+            Piece::Name(k, to) => {
+                put_name(text, kinds, places, numbers, &mut heads, count, k, at, to);
                 at = to;
                 line = false;
                 count += 1;
@@ -177,8 +171,7 @@ fn fill(text: &[u8], kinds: &mut [u32], places: &mut [u32], numbers: &mut [u64])
     requires { ⌜ Zero (now kinds) (now places) (now numbers) (now kinds) (now places) (now numbers) ⌝ }
     ensures { λ r. ⌜ Fills (now (text .entry)) r (now (kinds .exit)) (now (places .exit)) (now (numbers .exit)) ⌝ }
 {
-    let mut heads = [0u32; HEADS];
-    let r = cut_all(text, kinds, places, numbers, &mut heads);
+    let r = cut_all(text, kinds, places, numbers);
     bare(places);
     r
 }

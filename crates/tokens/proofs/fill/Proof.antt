@@ -6,9 +6,6 @@ use Rattle.tokens.proofs.fill.Lts as lts
 use Rattle.chains.proofs.bare.Reads as bare-reads
 use Rattle.tokens.proofs.cut_all.Reads as cut-all-reads
 
-slice-aggregate-cut-all : tie.Need-slice-aggregate-cut-all
-slice-aggregate-cut-all c = search needs
-
 cut-all-requires : tie.Need-cut-all-requires
 cut-all-requires c κs = search needs
 
@@ -25,16 +22,9 @@ same-length-3 : tie.Need-same-length-3
 same-length-3 c = search needs
 
 returns : tie.Need-returns
-returns c = rw (c .before .before .bare .ensures) (c .before .before .before .before .before .before .before .before .before .before .before .cut-all .ensures)
+returns c = rw (c .before .before .bare .ensures) (c .before .before .before .before .before .before .before .before .before .before .cut-all .ensures)
 
 pub fill-spec : {M : Type 1} → statement M
 fill-spec =
     tie.close
-    (tie.spec
-    slice-aggregate-cut-all
-    cut-all-requires
-    bare-requires
-    same-length
-    same-length-2
-    same-length-3
-    returns)
+    (tie.spec cut-all-requires bare-requires same-length same-length-2 same-length-3 returns)
