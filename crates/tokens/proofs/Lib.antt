@@ -1,4 +1,3 @@
-pub mod Zeros
 pub mod Meeting
 pub mod Stored
 pub mod Rounds

@@ -5,13 +5,15 @@ use chains::NAME_LENGTH;
 use chains::bare;
 use chains::hash;
 use chains::walk;
+use clearing::clear_u32;
+use clearing::clear_u64;
 use cutting::Piece;
 use cutting::next;
 use scan::byte_at;
 ghost use mathlib.Core.Path.{_≡_};
 ghost use mathlib.Core.List.{map};
 ghost use Prim.Native.Nat.{ℕ, _<_};
-ghost use lib.ListN.{length, set, replicate};
+ghost use lib.ListN.{length, set};
 ghost use Rattle.definition.specs.Scan.{before};
 ghost use Rattle.definition.specs.Cut.{aboveAscii};
 ghost use Rattle.chains.specs.Chain.{bare};
@@ -32,27 +34,6 @@ const LAST_BYTE: u32 = 127;
 pub enum Lexing {
     Done(usize),
     Refused(u32, usize),
-}
-
-// Zeros everywhere.
-fn clear_u32(w: &mut [u32])
-    ensures { λ _. ⌜ now (w .exit) ≡ replicate (length (now (w .entry))) 0 ⌝ }
-{
-    let mut i = 0;
-    while i < w.len() {
-        w[i] = 0;
-        i = i + 1;
-    }
-}
-
-fn clear_u64(w: &mut [u64])
-    ensures { λ _. ⌜ now (w .exit) ≡ replicate (length (now (w .entry))) 0 ⌝ }
-{
-    let mut i = 0;
-    while i < w.len() {
-        w[i] = 0;
-        i = i + 1;
-    }
 }
 
 fn clear(kinds: &mut [u32], places: &mut [u32], numbers: &mut [u64])

@@ -1,5 +1,5 @@
 use borrow.Author.Needs.{needs}
-use Rattle.clearing.proofs.Front.{cleared}
+use Rattle.clearing.proofs.Zeros.{cleared}
 use Rattle.clearing.proofs.clear.Statement.{statement}
 use Rattle.clearing.proofs.clear.Tie as tie
 

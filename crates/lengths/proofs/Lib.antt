@@ -1,0 +1,13 @@
+pub mod Sums
+pub mod Decimals
+pub mod Fits
+pub mod Lines
+pub mod Listed
+pub mod Spelt
+pub mod Ranges
+pub mod Plain
+pub mod Places
+pub mod Pays
+pub mod Closes
+pub mod Readers
+pub mod Bound

@@ -1,0 +1,4 @@
+pub mod Widths
+pub mod Counted
+pub mod Most
+pub mod Slices
