@@ -21,7 +21,7 @@ use Rattle.table.proofs.Columns.{signed-past}
 use Rattle.printing.specs.Written.{mostCounted, Wrote}
 use Rattle.printing.specs.Fitting.{after, holds}
 use Rattle.listing_bound.specs.Bound.{past64, Told, mostBytes}
-use Rattle.listing_bound.proofs.Most.{listing-long, listing-bytes}
+use Rattle.listing_bound.proofs.Most.{listing-told, listing-long, listing-bytes}
 use Rattle.listing.specs.Listed.{Fills, IsListing, ValuesFit}
 
 pub fills : {bs out out′ : Bytes} {r : ℕ} → Wrote bs out 0 out′ r → length bs ≤ mostCounted → length out ≤ mostCounted → Fills bs out out′ r
@@ -38,7 +38,7 @@ is-listing {text} {m} {t} p cap fit told k =
     let a = listing-bytes text m cap t fit told in
     let f = fills p (omega arith) k in
     let e = f .long in
-    record { fills = f; most = rw e (listing-long text m cap t fit told); mostEver = rw e a }
+    record { fills = f; most = rw e (listing-told text m cap t fit told); mostLong = rw e (listing-long text m cap t fit told); mostEver = rw e a }
 
 -- a value of 64 bits
 pub signed-below : (z : ℤ) → SFits w64 z → natAbs z < past64

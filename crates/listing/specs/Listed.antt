@@ -2,7 +2,7 @@
 use mathlib.Core.Path.{_≡_}
 use mathlib.Core.Bool.{true, false, _||_}
 use mathlib.Core.List.{List, [], _++_}
-use Prim.Native.Nat.{ℕ, _*_, _≤_, _<_}
+use Prim.Native.Nat.{ℕ, _+_, _*_, _≤_, _<_}
 use lib.Dec.{eqb}
 use lib.IntN.{ℤ, natAbs}
 use lib.ListN.{length, drop}
@@ -16,7 +16,7 @@ use Rattle.definition.specs.Listing.{memberLine, valueLine, paramLine, listing,
 use Rattle.definition.specs.Model.{Model}
 use Rattle.table.specs.Held.{InWords, InWides, InSigneds, Encodes, valueAt}
 use Rattle.table.specs.declared.Cursor.{Cursor}
-use Rattle.listing_bound.specs.Bound.{past64, linesIn, longestLine, mostBytes, mostRefused}
+use Rattle.listing_bound.specs.Bound.{past64, lineBytes, nameBytes, linesIn, longestLine, mostBytes, mostRefused}
 
 -- the slices hold the entries of t, and there are as many as the code was told
 abbrev pub HoldMembers : List ℕ → List ℕ → ℕ → Table → Type 0
@@ -62,7 +62,8 @@ pub record Fills (bs out out′ : Bytes) (r : ℕ) : Type 0 where
 -- the listing of a table, and a bound on it
 pub record IsListing (text : Bytes) (m : Model) (t : Table) (out out′ : Bytes) (r : ℕ) : Type 0 where
   pub fills : Fills (listing text m t) out out′ r
-  pub most : r ≤ linesIn t * longestLine text
+  pub most : r ≤ lineBytes * linesIn t + nameBytes text t
+  pub mostLong : r ≤ linesIn t * longestLine text
   pub mostEver : r ≤ mostBytes
 
 -- of whatever table the slices hold

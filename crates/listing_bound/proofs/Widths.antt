@@ -23,7 +23,7 @@ use Rattle.definition.specs.Size.{sizeOf}
 use Rattle.printing.specs.Written.{words}
 use Rattle.printing.proofs.Writing.{line-words}
 use Rattle.printing.proofs.Digits.{one-digit, more-digits}
-use Rattle.listing_bound.specs.Bound.{past32, past64, longestName, longestLine, mostRefused}
+use Rattle.listing_bound.specs.Bound.{past32, past64, longestName, lineBytes, mostRefused}
 
 -- ---- numbers
 
@@ -95,22 +95,21 @@ module _ (text : Bytes) where
   bits-most none b h k = (omega arith, omega arith)
   bits-most (some w) b h k = (decimal-most k, decimal-most (omega arith))
 
-  pub member-most : (e : Member) → e .offset < past64 → widthNumber (e .width) < past64 → e .firstBit < past64 → e .type < past64 → e .name < past32 → length (memberLine text e) ≤ longestLine text
+  pub member-most : (e : Member) → e .offset < past64 → widthNumber (e .width) < past64 → e .firstBit < past64 → e .type < past64 → length (memberLine text e) ≤ lineBytes + length (nameWord text (e .name))
   unfolding memberLine bytes
-  member-most e p q r s u =
+  member-most e p q r s =
       let a = decimal-most p in
       let b = bits-most (e .width) (e .firstBit) q r in
       let d = decimal-most s in
-      let n = name-most text u in
       rw line-cost (omega (arith, b .0, b .1))
 
-  pub value-most : (e : Value) → natAbs (e .value) < past64 → e .name < past32 → length (valueLine text e) ≤ longestLine text
+  pub value-most : (e : Value) → natAbs (e .value) < past64 → length (valueLine text e) ≤ lineBytes + length (nameWord text (e .name))
   unfolding valueLine bytes
-  value-most e p u = let a = signed-most (e .value) p in let n = name-most text u in rw line-cost (omega arith)
+  value-most e p = let a = signed-most (e .value) p in rw line-cost (omega arith)
 
-  pub parameter-most : (e : Parameter) → e .type < past64 → e .name < past32 → length (paramLine text e) ≤ longestLine text
+  pub parameter-most : (e : Parameter) → e .type < past64 → length (paramLine text e) ≤ lineBytes + length (nameWord text (e .name))
   unfolding paramLine bytes
-  parameter-most e p u = let a = decimal-most p in let n = name-most text u in rw line-cost (omega arith)
+  parameter-most e p = let a = decimal-most p in rw line-cost (omega arith)
 
   storage-most : (s : Storage) → length (storageWord s) ≤ 7
   unfolding storageWord bytes
@@ -120,9 +119,9 @@ module _ (text : Bytes) where
   storage-most staticStorage = omega arith
   storage-most autoStorage = omega arith
 
-  pub declaration-most : (e : Declaration) → e .type < past64 → e .name < past32 → length (declLine text e) ≤ longestLine text
+  pub declaration-most : (e : Declaration) → e .type < past64 → length (declLine text e) ≤ lineBytes + length (nameWord text (e .name))
   unfolding declLine bytes
-  declaration-most e p u = let a = decimal-most p in let s = storage-most (e .storage) in let n = name-most text u in rw line-cost (omega arith)
+  declaration-most e p = let a = decimal-most p in let s = storage-most (e .storage) in rw line-cost (omega arith)
 
   -- ---- rows
 
@@ -164,21 +163,21 @@ module _ (text : Bytes) where
   dots-most true = omega arith
   dots-most false = omega arith
 
-  details-most : (r : Row) → targetOf r < past64 → extentOf r < past64 → rowName r < past32 → cost (details text r) ≤ 43 + longestName text
+  details-most : (r : Row) → targetOf r < past64 → extentOf r < past64 → cost (details text r) ≤ 42 + length (nameWord text (rowName r))
   unfolding details targetOf extentOf rowName Small
-  details-most void h k u = omega arith
-  details-most (int s g) h k u = let a = sign-most g in omega arith
-  details-most (float s) h k u = omega arith
-  details-most bool h k u = omega arith
-  details-most (pointer r) h k u = let a = decimal-most h in omega arith
-  details-most (array r none) h k u = let a = decimal-most h in let b = or-dash-most none tt in omega arith
-  details-most (array r (some x)) h k u = let a = decimal-most h in let b = or-dash-most (some x) k in omega arith
-  details-most (composite g w s e) h k u = let n = name-most text u in omega arith
-  details-most (enumeration w s e) h k u = let n = name-most text u in omega arith
-  details-most (function none v e) h k u = let a = or-dash-most none tt in let b = dots-most v in omega arith
-  details-most (function (some r) v e) h k u = let a = or-dash-most (some r) h in let b = dots-most v in omega arith
-  details-most (typedef w r) h k u = let a = decimal-most h in let n = name-most text u in omega arith
-  details-most (qualified r q) h k u = let a = decimal-most h in let b = letters-most q in omega arith
+  details-most void h k = omega arith
+  details-most (int s g) h k = let a = sign-most g in omega arith
+  details-most (float s) h k = omega arith
+  details-most bool h k = omega arith
+  details-most (pointer r) h k = let a = decimal-most h in omega arith
+  details-most (array r none) h k = let a = decimal-most h in let b = or-dash-most none tt in omega arith
+  details-most (array r (some x)) h k = let a = decimal-most h in let b = or-dash-most (some x) k in omega arith
+  details-most (composite g w s e) h k = omega arith
+  details-most (enumeration w s e) h k = omega arith
+  details-most (function none v e) h k = let a = or-dash-most none tt in let b = dots-most v in omega arith
+  details-most (function (some r) v e) h k = let a = or-dash-most (some r) h in let b = dots-most v in omega arith
+  details-most (typedef w r) h k = let a = decimal-most h in omega arith
+  details-most (qualified r q) h k = let a = decimal-most h in let b = letters-most q in omega arith
 
   -- alignments are no larger than the cap
   module _ (m : Model) (cap : m .maxAlign < past64) (t : Table) where
@@ -220,14 +219,14 @@ module _ (text : Bytes) where
     align-small zero n = tt
     align-small (suc d) n = align-by-small (λ r. alignWithin d m t r) (λ r. align-small d r) n (rowAt t n)
 
-    pub type-most : (n : ℕ) → n < past64 → (r : Row) → targetOf r < past64 → extentOf r < past64 → rowName r < past32 → length (typeLine text m t n r) ≤ longestLine text
+    pub type-most : (n : ℕ) → n < past64 → (r : Row) → targetOf r < past64 → extentOf r < past64 → length (typeLine text m t n r) ≤ lineBytes + length (nameWord text (rowName r))
     unfolding typeLine bytes
-    type-most n l r h k u =
+    type-most n l r h k =
         let a = decimal-most l in
         let b = kind-most r in
         let s = size-most (sizeOf m t n) in
         let o = or-dash-most (alignWithin alignLevels m t n) (align-small alignLevels n) in
-        let e = details-most r h k u in
+        let e = details-most r h k in
         rw line-cost (omega arith)
 
 -- ---- refusals

@@ -1,5 +1,5 @@
 -- How long a listing can be: as many lines as there are rows, entries and declarations, each of at most 122 bytes and one name.
-use mathlib.Core.List.{List}
+use mathlib.Core.List.{List, [], _∷_}
 use Prim.Native.Nat.{ℕ, min, _+_, _<_}
 use lib.IntN.{natAbs}
 use lib.ListN.{length, getD}
@@ -7,6 +7,7 @@ use Rattle.definition.specs.Text.{Bytes}
 use Rattle.definition.specs.Row.{targetOf, extentOf, rowName}
 use Rattle.definition.specs.Table.{Table, rowAt}
 use Rattle.definition.specs.Types.{widthNumber}
+use Rattle.definition.specs.Listing.{nameWord}
 use Rattle.table.specs.Held.{memberAt, valueAt, parameterAt}
 use Rattle.lines.specs.Lines.{declarationAt}
 
@@ -37,6 +38,23 @@ pub record Told (t : Table) : Type 0 where
 -- A name is a part of the text, and its length has 16 bits.
 abbrev pub longestName : Bytes → ℕ
 longestName text = min (length text) 65535
+
+-- a sum over a list
+unfoldable pub total : {E : Type 0} → (E → ℕ) → List E → ℕ
+total g [] = 0
+total g (e ∷ es) = g e + total g es
+
+-- the bytes of the names of all rows, entries and declarations, a dash for no name
+abbrev pub nameBytes : Bytes → Table → ℕ
+nameBytes text t = total (λ r. length (nameWord text (rowName r))) (t .rows)
+    + total (λ e. length (nameWord text (e .name))) (t .members)
+    + total (λ e. length (nameWord text (e .name))) (t .values)
+    + total (λ e. length (nameWord text (e .name))) (t .parameters)
+    + total (λ e. length (nameWord text (e .name))) (t .declarations)
+
+-- the longest line but for its name
+abbrev pub lineBytes : ℕ
+lineBytes = 121
 
 -- the longest line, and how many there are
 abbrev pub longestLine : Bytes → ℕ
