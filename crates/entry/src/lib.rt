@@ -1,5 +1,4 @@
 // The two entries on texts: `translation_unit` and `declaration`, over slices that the caller lends.
-
 use clearing::clear;
 use names::fill_names;
 use scan::line_column;
@@ -10,20 +9,18 @@ use tokens::BAD_CALL;
 use tokens::Lexing;
 use tokens::MAX_TEXT;
 use tokens::tokenize;
+use units::declarations;
+use units::lone_declaration;
 use words::kinds::END;
 use words::model::Model;
 use words::model::ModelFound;
 ghost use mathlib.Core.Path.{_≡_};
-ghost use Prim.Native.Nat.{suc};
-ghost use Rattle.definition.specs.Token.{here, left};
-ghost use Rattle.definition.specs.Reader.{declarationsFrom};
+ghost use Rattle.definition.specs.Token.{here};
 ghost use Rattle.definition.specs.Entry.{parse, readWith, wholeHeader, singleDeclaration};
 ghost use Rattle.definition.specs.Table.{newTable};
 ghost use Rattle.words.specs.Meaning.{model};
-ghost use Rattle.table.specs.Held.{Held, Encodes};
-ghost use Rattle.table.specs.Reply.{Moves, move};
+ghost use Rattle.table.specs.Held.{Encodes};
 ghost use Rattle.laws.specs.Columns.{Columns};
-ghost use Rattle.entry.specs.Stub.{Readable, tokens, aloneFrom};
 ghost use Rattle.clearing.specs.Slices.{lent};
 ghost use Rattle.entry.specs.Answers.{entryOf, lexed, firstCursor, countsFrom, Parses, Read, Reads, Cleared, Enough, Leaves, Tells, rejectedAt, out, answered};
 
@@ -62,40 +59,6 @@ pub enum Reading {
 pub enum Entry {
     WholeHeader,
     SingleDeclaration,
-}
-
-// ---- TO BE REMOVED: these two are crate `units`
-
-fn declarations(
-    kinds: &[u32],
-    numbers: &[u64],
-    w: &mut [u32],
-    d: &mut [u64],
-    v: &mut [i64],
-    c: Cursor,
-    m: Model,
-) -> Move
-    requires { ⌜ Held c (now w) (now d) (now v) ⌝ }
-    requires { ⌜ Readable (now kinds) (now numbers) ⌝ }
-    ensures { λ r. ⌜ Moves (declarationsFrom (tokens (now (kinds .entry)) (now (numbers .entry))) (model m) (suc (left (tokens (now (kinds .entry)) (now (numbers .entry))) (c .at)))) c (now (w .entry)) (now (d .entry)) (now (v .entry)) (move r) (now (w .exit)) (now (d .exit)) (now (v .exit)) ⌝ }
-{
-    Move::Refused(BAD_CALL, 0)
-}
-
-fn lone_declaration(
-    kinds: &[u32],
-    numbers: &[u64],
-    w: &mut [u32],
-    d: &mut [u64],
-    v: &mut [i64],
-    c: Cursor,
-    m: Model,
-) -> Move
-    requires { ⌜ Held c (now w) (now d) (now v) ⌝ }
-    requires { ⌜ Readable (now kinds) (now numbers) ⌝ }
-    ensures { λ r. ⌜ Moves (aloneFrom (tokens (now (kinds .entry)) (now (numbers .entry))) (model m)) c (now (w .entry)) (now (d .entry)) (now (v .entry)) (move r) (now (w .exit)) (now (d .exit)) (now (v .exit)) ⌝ }
-{
-    Move::Refused(BAD_CALL, 0)
 }
 
 // ---- tokens

@@ -4,7 +4,7 @@ use Rattle.entry.proofs.parse_declaration.Tie as tie
 use Rattle.entry.proofs.parse_declaration.Reads as reads
 use Rattle.entry.proofs.parse_declaration.Lts as lts
 use Rattle.entry.proofs.first_cursor.Reads as first-cursor-reads
-use Rattle.entry.proofs.lone_declaration.Reads as lone-declaration-reads
+use Rattle.units.proofs.lone_declaration.Reads as lone-declaration-reads
 use Rattle.entry.proofs.offset_of.Reads as offset-of-reads
 use native.Mathlib.Omega.{arith}
 use mathlib.Core.Path.{_≡_, refl, sym, ap, _∙_}

@@ -25,7 +25,7 @@ use Rattle.laws.proofs.Columns.{tokenize-columns, tokenize-end}
 use Rattle.laws.proofs.Left.{Long}
 use Rattle.scan.specs.declared.Spot.{Spot}
 use Rattle.scan.specs.Where.{place}
-use Rattle.scan.proofs.Branch.{nay!}
+use Rattle.scan.proofs.Branch.{nay! }
 use Rattle.table.proofs.Branch.{yes, nay}
 use Rattle.tokens.specs.Columns as columns
 use Rattle.tokens.proofs.Entry as lexing

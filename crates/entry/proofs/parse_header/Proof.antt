@@ -3,7 +3,7 @@ use Rattle.entry.proofs.parse_header.Statement.{statement}
 use Rattle.entry.proofs.parse_header.Tie as tie
 use Rattle.entry.proofs.parse_header.Reads as reads
 use Rattle.entry.proofs.parse_header.Lts as lts
-use Rattle.entry.proofs.declarations.Reads as declarations-reads
+use Rattle.units.proofs.declarations.Reads as declarations-reads
 use Rattle.entry.proofs.first_cursor.Reads as first-cursor-reads
 use Rattle.entry.proofs.offset_of.Reads as offset-of-reads
 use native.Mathlib.Omega.{arith}
