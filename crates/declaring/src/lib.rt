@@ -18,6 +18,7 @@ ghost use Rattle.definition.specs.Reader.{defineTypedef, isTypedef, declaredRow
 ghost use Rattle.table.specs.Held.{Held};
 ghost use Rattle.table.specs.Reply.{step, move, Does, Moves};
 ghost use Rattle.words.specs.Meaning.{storage};
+ghost use Rattle.declaring.specs.Pieces.{addedDeclaration};
 ghost use Rattle.declaring.specs.Tokens.{MovesBy, to, semicolonPassed};
 
 // Refusals.
@@ -106,6 +107,27 @@ pub fn declare(w: &mut [u32], d: &mut [u64], v: &mut [i64], c: Cursor, x: Declar
     let r = push_declaration(w, d, v, c, class.number(), x.ty, x.name);
     match r {
         Step::Done(e, _) => Move::To(e),
+        Step::Refused(k, p) => Move::Refused(k, p),
+    }
+}
+
+// A declarator's declaration of a type: its entry shows the row that it declares. `at` is where its declarator began.
+pub fn add_declaration(
+    w: &mut [u32],
+    d: &mut [u64],
+    v: &mut [i64],
+    c: Cursor,
+    x: Declaration,
+    at: usize,
+) -> Move
+    requires { ⌜ Held c (now w) (now d) (now v) ⌝ }
+    ensures { λ r. ⌜ Moves (addedDeclaration (storage (x .storage)) (x .name) (x .ty) at) c (now (w .entry)) (now (d .entry)) (now (v .entry)) (move r) (now (w .exit)) (now (d .exit)) (now (v .exit)) ⌝ }
+{
+    let storage = x.storage;
+    let name = x.name;
+    let r = declared_row(w, d, v, c, x, at);
+    match r {
+        Step::Done(e, ty) => declare(w, d, v, e, Declaration { storage, ty, name }),
         Step::Refused(k, p) => Move::Refused(k, p),
     }
 }

@@ -100,7 +100,7 @@ pub enum Typed {
 // ---- specifiers
 
 // The row of a struct, union or enum, by its keyword.
-fn tagged_type(
+fn tag_type(
     kinds: &[u32],
     numbers: &[u64],
     w: &mut [u32],
@@ -140,7 +140,7 @@ fn type_row(
     let at = c.at;
     let kind = kind_at(kinds, at);
     if is_tag_word(kind) {
-        return tagged_type(kinds, numbers, w, d, v, c.moved(at + 1), m, kind, room);
+        return tag_type(kinds, numbers, w, d, v, c.moved(at + 1), m, kind, room);
     }
     let r = named_type(kinds, numbers, w, d, v, c, m);
     let Step::Done(e, n) = r else {
@@ -226,10 +226,10 @@ pub fn composite(
         return Step::Refused(TOO_DEEP, at);
     }
     if !is_name(kind_at(kinds, at)) {
-        return untagged_composite(kinds, numbers, w, d, v, c, m, union, room - 1);
+        return without_tag(kinds, numbers, w, d, v, c, m, union, room - 1);
     }
     let name = name_at(numbers, at);
-    tagged_composite(
+    with_tag(
         kinds,
         numbers,
         w,
@@ -245,7 +245,7 @@ pub fn composite(
 }
 
 // A tag is known before its body is read, so that the body can name it. `at` is the tag's place.
-fn tagged_composite(
+fn with_tag(
     kinds: &[u32],
     numbers: &[u64],
     w: &mut [u32],
@@ -281,7 +281,7 @@ fn tagged_composite(
 }
 
 // A body without a tag.
-fn untagged_composite(
+fn without_tag(
     kinds: &[u32],
     numbers: &[u64],
     w: &mut [u32],
@@ -362,7 +362,7 @@ fn member_list(
         if kind == SEMICOLON {
             here = here.moved(at + 1);
         } else {
-            let r = member_declaration(kinds, numbers, w, d, v, here, m, first, room);
+            let r = member(kinds, numbers, w, d, v, here, m, first, room);
             let Move::To(e) = r else {
                 return r;
             };
@@ -372,7 +372,7 @@ fn member_list(
 }
 
 // One member declaration: its type, and its declarators.
-fn member_declaration(
+fn member(
     kinds: &[u32],
     numbers: &[u64],
     w: &mut [u32],
@@ -429,11 +429,11 @@ fn after_type(
     if kind_at(kinds, i) == SEMICOLON {
         return anonymous_member(w, d, v, c.moved(i + 1), first, b, at);
     }
-    member_declarators(kinds, numbers, w, d, v, c, m, first, b, room)
+    declarators(kinds, numbers, w, d, v, c, m, first, b, room)
 }
 
 // The declarators of one member declaration, up to its semicolon.
-fn member_declarators(
+fn declarators(
     kinds: &[u32],
     numbers: &[u64],
     w: &mut [u32],
@@ -452,7 +452,7 @@ fn member_declarators(
 {
     let mut here = c;
     loop {
-        let r = member_declarator(kinds, numbers, w, d, v, here, m, first, b, room);
+        let r = one_member(kinds, numbers, w, d, v, here, m, first, b, room);
         let Move::To(e) = r else {
             return r;
         };
@@ -469,7 +469,7 @@ fn member_declarators(
 }
 
 // An unnamed bit-field, or a declarator with or without a width.
-fn member_declarator(
+fn one_member(
     kinds: &[u32],
     numbers: &[u64],
     w: &mut [u32],
@@ -694,7 +694,7 @@ fn parameters(
     if kind_at(kinds, c.at) == CLOSE_PAREN {
         return parameters_end(kinds, c, false, first, 0);
     }
-    parameter_list(kinds, numbers, w, d, v, c, m, first, room)
+    list(kinds, numbers, w, d, v, c, m, first, room)
 }
 
 // One parameter: its type, its name.
@@ -758,7 +758,7 @@ pub fn declared_type(
 }
 
 // Parameters up to the closing parenthesis.
-fn parameter_list(
+fn list(
     kinds: &[u32],
     numbers: &[u64],
     w: &mut [u32],

@@ -18,7 +18,7 @@ use Rattle.definition.specs.Table.{Storage, State}
 use Rattle.definition.specs.Specifiers.{specifiers, baseType}
 use Rattle.definition.specs.Declarator.{apply}
 use Rattle.definition.specs.Grammar.{stands}
-use Rattle.definition.specs.Reader.{levels, inner, initialiser, declaredRow, declare, initDeclarator, declaration, separated, nothingMore, optionalSemicolon, loneDeclaration, allDeclarations, declarationsFrom, start}
+use Rattle.definition.specs.Reader.{levels, inner, initialiser, initDeclarator, declaration, separated, nothingMore, optionalSemicolon, loneDeclaration, allDeclarations, declarationsFrom, start}
 use Rattle.laws.specs.Progress.{MovesPast}
 use Rattle.laws.proofs.Progress.{declaration-on}
 use Rattle.table.specs.Ends.{Ends}
@@ -28,6 +28,7 @@ use Rattle.table.specs.declared.Cursor.{Cursor}
 use Rattle.table.proofs.Branch.{by}
 use Rattle.table.proofs.Shown.{went, held-on}
 use Rattle.constants.specs.Reading.{tokens}
+use Rattle.declaring.specs.Pieces.{addedDeclaration}
 use Rattle.declaring.specs.Tokens.{MovesBy}
 use Rattle.parser.proofs.Goes.{moves-on}
 use Rattle.laws.proofs.Every.{got!, no!, bool!, test! }
@@ -36,21 +37,19 @@ use Rattle.parser.proofs.Made.{joined}
 use Rattle.units.specs.Pieces.{afterBase, aloneFrom}
 
 -- after an initialiser that was passed over
-pub initialised : {Q : Answer State → Type 0} (ts : Tokens) (s s′ : State) (c : Storage) (w b at : ℕ) (k : ℕ × State → Answer State) → initialiser ts s ≡ s′
-    → Ends Q (declaredRow c w b at s′ >>= k) → Ends Q (declaredRow c w b at (initialiser ts s) >>= k)
-initialised ts s s′ c w b at k e h = by (ap (λ (z : State). declaredRow c w b at z >>= k) e) h
+pub initialised : {Q : Answer State → Type 0} (ts : Tokens) (s s′ : State) (c : Storage) (w b at : ℕ) → initialiser ts s ≡ s′
+    → Ends Q (addedDeclaration c w b at s′) → Ends Q (addedDeclaration c w b at (initialiser ts s))
+initialised ts s s′ c w b at e h = by (ap (addedDeclaration c w b at) e) h
 
 module _ (ts : Tokens) (m : Model) where
   pub declarator-made : (c : Storage) (b : ℕ) (s : State) → initDeclarator ts m c b s ≡ (typedFrom (inner ts m) b s >>= λ x. elim (eqb (x .1) noName) as (λ z. Answer State) [
     | true ↦ refused missingName (s .at)
-    | false ↦ (do
-      n ← declaredRow c (x .1) (x .0) (s .at) (initialiser ts (x .2))
-      declare c (n .0) (x .1) (n .1))
+    | false ↦ addedDeclaration c (x .1) (x .0) (s .at) (initialiser ts (x .2))
   ])
-  unfolding initDeclarator typedFrom
+  unfolding initDeclarator typedFrom addedDeclaration
   declarator-made c b s = joined (inner ts m .declarator 0 s) (λ d. apply (d .0 .steps) b (d .1)) (λ d r. (r .0, d .0 .name, r .1)) (λ (x : ℕ × ℕ × State). elim (eqb (x .1) noName) as (λ z. Answer State) [
     | true ↦ refused missingName (s .at)
-    | false ↦ (declaredRow c (x .1) (x .0) (s .at) (initialiser ts (x .2)) >>= λ n. declare c (n .0) (x .1) (n .1))
+    | false ↦ addedDeclaration c (x .1) (x .0) (s .at) (initialiser ts (x .2))
   ])
 
   pub declaration-made : (s : State) → declaration ts m s ≡ (do

@@ -1,8 +1,8 @@
 // Declarations: one alone, or all of a header. What the tables hold before is kept: a new table has none.
 use basing::base_type;
 use declaring::Declaration;
+use declaring::add_declaration;
 use declaring::declare;
-use declaring::declared_row;
 use declaring::is_typedef;
 use declaring::nothing_more;
 use declaring::optional_semicolon;
@@ -60,32 +60,12 @@ fn init_declarator(
                 return Move::Refused(MISSING_NAME, at);
             }
             let f = e.moved(initialiser(kinds, e.at));
-            let r = declared_row(
-                w,
-                d,
-                v,
-                f,
-                Declaration {
-                    storage: class,
-                    ty,
-                    name,
-                },
-                at,
-            );
-            match r {
-                Step::Done(g, n) => declare(
-                    w,
-                    d,
-                    v,
-                    g,
-                    Declaration {
-                        storage: class,
-                        ty: n,
-                        name,
-                    },
-                ),
-                Step::Refused(k, p) => Move::Refused(k, p),
-            }
+            let x = Declaration {
+                storage: class,
+                ty,
+                name,
+            };
+            add_declaration(w, d, v, f, x, at)
         }
         Typed::Refused(k, p) => Move::Refused(k, p),
     }

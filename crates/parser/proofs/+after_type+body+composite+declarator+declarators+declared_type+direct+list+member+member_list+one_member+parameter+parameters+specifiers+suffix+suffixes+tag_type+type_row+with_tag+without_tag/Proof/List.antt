@@ -1,0 +1,792 @@
+use Prim.Native.Nat.{ℕ, _<_}
+use borrow.Fn.Kinds.{In}
+use borrow.Fn.PlainCycle.{Measures, is, falls, and}
+use Rattle.parser.proofs.after_type.Reads as after-type
+use Rattle.parser.proofs.after_type.Kinds as after-type-kinds
+use Rattle.parser.proofs.+after_type+body+composite+declarator+declarators+declared_type+direct+list+member+member_list+one_member+parameter+parameters+specifiers+suffix+suffixes+tag_type+type_row+with_tag+without_tag.Lts-after_type as after-type-lts
+use Rattle.parser.proofs.body.Reads as body
+use Rattle.parser.proofs.body.Kinds as body-kinds
+use Rattle.parser.proofs.+after_type+body+composite+declarator+declarators+declared_type+direct+list+member+member_list+one_member+parameter+parameters+specifiers+suffix+suffixes+tag_type+type_row+with_tag+without_tag.Lts-body as body-lts
+use Rattle.parser.proofs.composite.Reads as composite
+use Rattle.parser.proofs.composite.Kinds as composite-kinds
+use Rattle.parser.proofs.+after_type+body+composite+declarator+declarators+declared_type+direct+list+member+member_list+one_member+parameter+parameters+specifiers+suffix+suffixes+tag_type+type_row+with_tag+without_tag.Lts-composite as composite-lts
+use Rattle.parser.proofs.declarator.Reads as declarator
+use Rattle.parser.proofs.declarator.Kinds as declarator-kinds
+use Rattle.parser.proofs.+after_type+body+composite+declarator+declarators+declared_type+direct+list+member+member_list+one_member+parameter+parameters+specifiers+suffix+suffixes+tag_type+type_row+with_tag+without_tag.Lts-declarator as declarator-lts
+use Rattle.parser.proofs.declarators.Reads as declarators
+use Rattle.parser.proofs.declarators.Kinds as declarators-kinds
+use Rattle.parser.proofs.+after_type+body+composite+declarator+declarators+declared_type+direct+list+member+member_list+one_member+parameter+parameters+specifiers+suffix+suffixes+tag_type+type_row+with_tag+without_tag.Lts-declarators as declarators-lts
+use Rattle.parser.proofs.declared_type.Reads as declared-type
+use Rattle.parser.proofs.declared_type.Kinds as declared-type-kinds
+use Rattle.parser.proofs.+after_type+body+composite+declarator+declarators+declared_type+direct+list+member+member_list+one_member+parameter+parameters+specifiers+suffix+suffixes+tag_type+type_row+with_tag+without_tag.Lts-declared_type as declared-type-lts
+use Rattle.parser.proofs.direct.Reads as direct
+use Rattle.parser.proofs.direct.Kinds as direct-kinds
+use Rattle.parser.proofs.+after_type+body+composite+declarator+declarators+declared_type+direct+list+member+member_list+one_member+parameter+parameters+specifiers+suffix+suffixes+tag_type+type_row+with_tag+without_tag.Lts-direct as direct-lts
+use Rattle.parser.proofs.list.Reads as list
+use Rattle.parser.proofs.list.Kinds as list-kinds
+use Rattle.parser.proofs.+after_type+body+composite+declarator+declarators+declared_type+direct+list+member+member_list+one_member+parameter+parameters+specifiers+suffix+suffixes+tag_type+type_row+with_tag+without_tag.Lts-list as list-lts
+use Rattle.parser.proofs.member.Reads as member
+use Rattle.parser.proofs.member.Kinds as member-kinds
+use Rattle.parser.proofs.+after_type+body+composite+declarator+declarators+declared_type+direct+list+member+member_list+one_member+parameter+parameters+specifiers+suffix+suffixes+tag_type+type_row+with_tag+without_tag.Lts-member as member-lts
+use Rattle.parser.proofs.member_list.Reads as member-list
+use Rattle.parser.proofs.member_list.Kinds as member-list-kinds
+use Rattle.parser.proofs.+after_type+body+composite+declarator+declarators+declared_type+direct+list+member+member_list+one_member+parameter+parameters+specifiers+suffix+suffixes+tag_type+type_row+with_tag+without_tag.Lts-member_list as member-list-lts
+use Rattle.parser.proofs.one_member.Reads as one-member
+use Rattle.parser.proofs.one_member.Kinds as one-member-kinds
+use Rattle.parser.proofs.+after_type+body+composite+declarator+declarators+declared_type+direct+list+member+member_list+one_member+parameter+parameters+specifiers+suffix+suffixes+tag_type+type_row+with_tag+without_tag.Lts-one_member as one-member-lts
+use Rattle.parser.proofs.parameter.Reads as parameter
+use Rattle.parser.proofs.parameter.Kinds as parameter-kinds
+use Rattle.parser.proofs.+after_type+body+composite+declarator+declarators+declared_type+direct+list+member+member_list+one_member+parameter+parameters+specifiers+suffix+suffixes+tag_type+type_row+with_tag+without_tag.Lts-parameter as parameter-lts
+use Rattle.parser.proofs.parameters.Reads as parameters
+use Rattle.parser.proofs.parameters.Kinds as parameters-kinds
+use Rattle.parser.proofs.+after_type+body+composite+declarator+declarators+declared_type+direct+list+member+member_list+one_member+parameter+parameters+specifiers+suffix+suffixes+tag_type+type_row+with_tag+without_tag.Lts-parameters as parameters-lts
+use Rattle.parser.proofs.specifiers.Reads as specifiers
+use Rattle.parser.proofs.specifiers.Kinds as specifiers-kinds
+use Rattle.parser.proofs.+after_type+body+composite+declarator+declarators+declared_type+direct+list+member+member_list+one_member+parameter+parameters+specifiers+suffix+suffixes+tag_type+type_row+with_tag+without_tag.Lts-specifiers as specifiers-lts
+use Rattle.parser.proofs.suffix.Reads as suffix
+use Rattle.parser.proofs.suffix.Kinds as suffix-kinds
+use Rattle.parser.proofs.+after_type+body+composite+declarator+declarators+declared_type+direct+list+member+member_list+one_member+parameter+parameters+specifiers+suffix+suffixes+tag_type+type_row+with_tag+without_tag.Lts-suffix as suffix-lts
+use Rattle.parser.proofs.suffixes.Reads as suffixes
+use Rattle.parser.proofs.suffixes.Kinds as suffixes-kinds
+use Rattle.parser.proofs.+after_type+body+composite+declarator+declarators+declared_type+direct+list+member+member_list+one_member+parameter+parameters+specifiers+suffix+suffixes+tag_type+type_row+with_tag+without_tag.Lts-suffixes as suffixes-lts
+use Rattle.parser.proofs.tag_type.Reads as tag-type
+use Rattle.parser.proofs.tag_type.Kinds as tag-type-kinds
+use Rattle.parser.proofs.+after_type+body+composite+declarator+declarators+declared_type+direct+list+member+member_list+one_member+parameter+parameters+specifiers+suffix+suffixes+tag_type+type_row+with_tag+without_tag.Lts-tag_type as tag-type-lts
+use Rattle.parser.proofs.type_row.Reads as type-row
+use Rattle.parser.proofs.type_row.Kinds as type-row-kinds
+use Rattle.parser.proofs.+after_type+body+composite+declarator+declarators+declared_type+direct+list+member+member_list+one_member+parameter+parameters+specifiers+suffix+suffixes+tag_type+type_row+with_tag+without_tag.Lts-type_row as type-row-lts
+use Rattle.parser.proofs.with_tag.Reads as with-tag
+use Rattle.parser.proofs.with_tag.Kinds as with-tag-kinds
+use Rattle.parser.proofs.+after_type+body+composite+declarator+declarators+declared_type+direct+list+member+member_list+one_member+parameter+parameters+specifiers+suffix+suffixes+tag_type+type_row+with_tag+without_tag.Lts-with_tag as with-tag-lts
+use Rattle.parser.proofs.without_tag.Reads as without-tag
+use Rattle.parser.proofs.without_tag.Kinds as without-tag-kinds
+use Rattle.parser.proofs.+after_type+body+composite+declarator+declarators+declared_type+direct+list+member+member_list+one_member+parameter+parameters+specifiers+suffix+suffixes+tag_type+type_row+with_tag+without_tag.Lts-without_tag as without-tag-lts
+use Rattle.basing.proofs.base_type.Reads as base-type-reads
+use Rattle.basing.proofs.named_type.Reads as named-type-reads
+use Rattle.bodies.proofs.add_body.Reads as add-body-reads
+use Rattle.bodies.proofs.define_body.Reads as define-body-reads
+use Rattle.declarator_heads.proofs.Declared.new.Reads as new-reads
+use Rattle.declarator_heads.proofs.opens_declarator.Reads as opens-declarator-reads
+use Rattle.declarator_heads.proofs.stars.Reads as stars-reads
+use Rattle.deriving.proofs.apply.Reads as apply-reads
+use Rattle.enumerating.proofs.enumeration.Reads as enumeration-reads
+use Rattle.fields.proofs.anonymous_member.Reads as anonymous-member-reads
+use Rattle.member_entries.proofs.close_body.Reads as close-body-reads
+use Rattle.member_entries.proofs.field.Reads as field-reads
+use Rattle.naming.proofs.name_at.Reads as name-at-reads
+use Rattle.parameter_entries.proofs.add_parameter.Reads as add-parameter-reads
+use Rattle.parameter_entries.proofs.is_void_list.Reads as is-void-list-reads
+use Rattle.parameter_entries.proofs.parameters_end.Reads as parameters-end-reads
+use Rattle.parts.proofs.array_bound.Reads as array-bound-reads
+use Rattle.rows.proofs.tag_row.Reads as tag-row-reads
+use Rattle.specifier_words.proofs.has_base.Reads as has-base-reads
+use Rattle.specifier_words.proofs.says_no_type.Reads as says-no-type-reads
+use Rattle.specifier_words.proofs.with_word.Reads as with-word-reads
+use Rattle.steps.proofs.bounded.Reads as bounded-reads
+use Rattle.steps.proofs.empty.Reads as empty-reads
+use Rattle.steps.proofs.is_full.Reads as is-full-reads
+use Rattle.steps.proofs.push.Reads as push-reads
+use Rattle.steps.proofs.release_stars.Reads as release-stars-reads
+use Rattle.steps.proofs.unbounded.Reads as unbounded-reads
+use Rattle.table.proofs.Cursor.moved.Reads as moved-reads
+use Rattle.table.proofs.kind_at.Reads as kind-at-reads
+use Rattle.words.proofs.classes.is_name.Reads as is-name-reads
+use Rattle.words.proofs.classes.is_tag_word.Reads as is-tag-word-reads
+use Rattle.words.proofs.classes.is_type_word.Reads as is-type-word-reads
+use Rattle.words.proofs.classes.is_word.Reads as is-word-reads
+use Rattle.words.proofs.specifiers.Specifiers.based_on.Reads as based-on-reads
+use Rattle.words.proofs.specifiers.Specifiers.names_type.Reads as names-type-reads
+use Rattle.words.proofs.specifiers.Specifiers.none.Reads as none-reads
+use Rattle.words.proofs.specifiers.Specifiers.wording.Reads as wording-reads
+use Rattle.words.proofs.storage.Storage.number.Reads as number-reads
+use Rattle.parser.proofs.+after_type+body+composite+declarator+declarators+declared_type+direct+list+member+member_list+one_member+parameter+parameters+specifiers+suffix+suffixes+tag_type+type_row+with_tag+without_tag.Proof.Falls.{μ-after-type, μ-body, μ-composite, μ-declarator, μ-declarators, μ-declared-type, μ-direct, μ-list, μ-member, μ-member-list, μ-one-member, μ-parameter, μ-parameters, μ-specifiers, μ-suffix, μ-suffixes, μ-tag-type, μ-type-row, μ-with-tag, μ-without-tag, after-type-at, after-type-below, body-at, body-below, composite-at, composite-below, declarator-at, declarator-below, declarators-at, declarators-below, declared-type-at, declared-type-below, direct-at, direct-below, list-at, list-below, member-at, member-below, member-list-at, member-list-below, one-member-at, one-member-below, parameter-at, parameter-below, parameters-at, parameters-below, specifiers-at, specifiers-below, suffix-at, suffix-below, suffixes-at, suffixes-below, tag-type-at, tag-type-below, type-row-at, type-row-below, with-tag-at, with-tag-below, without-tag-at, without-tag-below}
+use borrow.Author.Needs.{needs, sfits-of}
+use native.Mathlib.Omega.{arith}
+use mathlib.Core.Path.{_≡_, refl, sym, ap, _∙_}
+use Rattle.constants.specs.Reading.{tokens}
+use Rattle.definition.specs.Answer.{got, refused, _>>=_}
+use Rattle.definition.specs.Reader.{levels}
+use Rattle.table.proofs.Branch.{by, yes!, nay!, eq+, eq-, lt+, lt-}
+use Rattle.table.proofs.Rounds.{Going, starts, starts-at, turn, held-now}
+use Rattle.table.proofs.Shown.{got!, got-at, no!, call, fail, refuse, held, held-at, held-on, step-on, at-other}
+use Rattle.table.proofs.Steps.{there, is+, is-, ate, missed}
+use Rattle.table.specs.Reply.{step, move, ok, bad}
+use Prim.Native.Nat.{_+_}
+use Rattle.table.specs.Held.{state, movedTo}
+use Rattle.definition.specs.Declarator.{parametersFrom}
+use Rattle.definition.specs.Token.{left}
+use Rattle.laws.proofs.Progress.{parameter-on, levels-on}
+use Rattle.words.specs.Meaning.{model}
+use Rattle.parameter_entries.proofs.Entries.{entered}
+use Rattle.parser.specs.Answers.{typed}
+use Rattle.parser.proofs.Goes.{typed-on, stays}
+use Rattle.parser.proofs.Lists.{Entering, begin, enough, fewer, under, entry-on, one-more, one-fewer, addedParameter-stays, counted-end, counted-on}
+
+abbrev pub list-Inv-loop : list-lts.InvT-loop
+list-Inv-loop kinds numbers w₀ d₀ v₀ m first room here₀ n₀ w d v here n = Entering (tokens kinds numbers) (model m) room first here₀ w₀ d₀ v₀ n here w d v
+
+abbrev pub list-μ-loop : list-lts.MeasureT-loop
+list-μ-loop kinds numbers w₀ d₀ v₀ m first room here₀ n₀ w d v here n = left (tokens kinds numbers) (here .at)
+
+pub list-loop-holds : (t : ℕ) → list-lts.Need-loop-holds (
+  kind-at-reads.Asked,
+  kind-at-reads.Learnt,
+  moved-reads.Asked,
+  moved-reads.Learnt,
+  parameters-end-reads.Asked,
+  parameters-end-reads.Learnt,
+  parameter-below t,
+  parameter.Post,
+  is-void-list-reads.Asked,
+  is-void-list-reads.Learnt,
+  add-parameter-reads.Asked,
+  add-parameter-reads.Learnt,
+) (list-at t) list.Post list-Inv-loop list-μ-loop
+list-loop-holds t c = record { reading = begin (c .before .before .before .before .pre .1 .0); passed = omega arith; few = omega arith }
+
+pub list-kind-at-requires : (t : ℕ) → list-lts.Need-kind-at-requires (
+  kind-at-reads.Asked,
+  kind-at-reads.Learnt,
+  moved-reads.Asked,
+  moved-reads.Learnt,
+  parameters-end-reads.Asked,
+  parameters-end-reads.Learnt,
+  parameter-below t,
+  parameter.Post,
+  is-void-list-reads.Asked,
+  is-void-list-reads.Learnt,
+  add-parameter-reads.Asked,
+  add-parameter-reads.Learnt,
+) (list-at t) list.Post list-Inv-loop list-μ-loop
+list-kind-at-requires t c κs = search needs
+
+pub list-add-moved : (t : ℕ) → list-lts.Need-add-moved (
+  kind-at-reads.Asked,
+  kind-at-reads.Learnt,
+  moved-reads.Asked,
+  moved-reads.Learnt,
+  parameters-end-reads.Asked,
+  parameters-end-reads.Learnt,
+  parameter-below t,
+  parameter.Post,
+  is-void-list-reads.Asked,
+  is-void-list-reads.Learnt,
+  add-parameter-reads.Asked,
+  add-parameter-reads.Learnt,
+) (list-at t) list.Post list-Inv-loop list-μ-loop
+list-add-moved t c = omega (arith, c .before .before .before .before .before .before .before .good .0 .1, there (c .before .kind-at .ensures) (c .if1 .taken))
+
+pub list-moved-requires : (t : ℕ) → list-lts.Need-moved-requires (
+  kind-at-reads.Asked,
+  kind-at-reads.Learnt,
+  moved-reads.Asked,
+  moved-reads.Learnt,
+  parameters-end-reads.Asked,
+  parameters-end-reads.Learnt,
+  parameter-below t,
+  parameter.Post,
+  is-void-list-reads.Asked,
+  is-void-list-reads.Learnt,
+  add-parameter-reads.Asked,
+  add-parameter-reads.Learnt,
+) (list-at t) list.Post list-Inv-loop list-μ-loop
+list-moved-requires t c κs = search needs
+
+pub list-parameters-end-requires : (t : ℕ) → list-lts.Need-parameters-end-requires (
+  kind-at-reads.Asked,
+  kind-at-reads.Learnt,
+  moved-reads.Asked,
+  moved-reads.Learnt,
+  parameters-end-reads.Asked,
+  parameters-end-reads.Learnt,
+  parameter-below t,
+  parameter.Post,
+  is-void-list-reads.Asked,
+  is-void-list-reads.Learnt,
+  add-parameter-reads.Asked,
+  add-parameter-reads.Learnt,
+) (list-at t) list.Post list-Inv-loop list-μ-loop
+list-parameters-end-requires t c κs = search needs
+
+pub list-same-length : (t : ℕ) → list-lts.Need-same-length (
+  kind-at-reads.Asked,
+  kind-at-reads.Learnt,
+  moved-reads.Asked,
+  moved-reads.Learnt,
+  parameters-end-reads.Asked,
+  parameters-end-reads.Learnt,
+  parameter-below t,
+  parameter.Post,
+  is-void-list-reads.Asked,
+  is-void-list-reads.Learnt,
+  add-parameter-reads.Asked,
+  add-parameter-reads.Learnt,
+) (list-at t) list.Post list-Inv-loop list-μ-loop
+list-same-length t c = c .before .before .before .before .loop .inv .reading .held .long .words ∙ sym (c .before .before .before .before .before .before .before .before .before .pre .1 .0 .long .words)
+
+pub list-same-length-2 : (t : ℕ) → list-lts.Need-same-length-2 (
+  kind-at-reads.Asked,
+  kind-at-reads.Learnt,
+  moved-reads.Asked,
+  moved-reads.Learnt,
+  parameters-end-reads.Asked,
+  parameters-end-reads.Learnt,
+  parameter-below t,
+  parameter.Post,
+  is-void-list-reads.Asked,
+  is-void-list-reads.Learnt,
+  add-parameter-reads.Asked,
+  add-parameter-reads.Learnt,
+) (list-at t) list.Post list-Inv-loop list-μ-loop
+list-same-length-2 t c = c .before .before .before .before .loop .inv .reading .held .long .wides ∙ sym (c .before .before .before .before .before .before .before .before .before .pre .1 .0 .long .wides)
+
+pub list-same-length-3 : (t : ℕ) → list-lts.Need-same-length-3 (
+  kind-at-reads.Asked,
+  kind-at-reads.Learnt,
+  moved-reads.Asked,
+  moved-reads.Learnt,
+  parameters-end-reads.Asked,
+  parameters-end-reads.Learnt,
+  parameter-below t,
+  parameter.Post,
+  is-void-list-reads.Asked,
+  is-void-list-reads.Learnt,
+  add-parameter-reads.Asked,
+  add-parameter-reads.Learnt,
+) (list-at t) list.Post list-Inv-loop list-μ-loop
+list-same-length-3 t c = c .before .before .before .before .loop .inv .reading .held .long .signeds ∙ sym (c .before .before .before .before .before .before .before .before .before .pre .1 .0 .long .signeds)
+
+pub list-returns : (t : ℕ) → list-lts.Need-returns (
+  kind-at-reads.Asked,
+  kind-at-reads.Learnt,
+  moved-reads.Asked,
+  moved-reads.Learnt,
+  parameters-end-reads.Asked,
+  parameters-end-reads.Learnt,
+  parameter-below t,
+  parameter.Post,
+  is-void-list-reads.Asked,
+  is-void-list-reads.Learnt,
+  add-parameter-reads.Asked,
+  add-parameter-reads.Learnt,
+) (list-at t) list.Post list-Inv-loop list-μ-loop
+unfolding parametersFrom
+list-returns t c = record { run = λ t₁ h. turn (c .before .before .before .before .loop .inv .reading .going _ (enough _) t₁ h) (λ t₂ f l h₂. is+ _ _ (c .before .before .before .kind-at .ensures) (c .before .before .if1 .taken) (step-on (c .before .moved .ensures) (c .parameters-end .ensures .with (c .before .before .before .before .before .before .before .before .before .args .numbers .now) (model (c .before .before .before .before .before .before .before .before .before .args .m)) (levels (tokens (c .before .before .before .before .before .before .before .before .before .args .kinds .now) (c .before .before .before .before .before .before .before .before .before .args .numbers .now)) (model (c .before .before .before .before .before .before .before .before .before .args .m)) (c .before .before .before .before .before .before .before .before .before .args .room)) _ _ _) h₂)) }
+
+pub list-parameter-requires : (t : ℕ) → list-lts.Need-parameter-requires (
+  kind-at-reads.Asked,
+  kind-at-reads.Learnt,
+  moved-reads.Asked,
+  moved-reads.Learnt,
+  parameters-end-reads.Asked,
+  parameters-end-reads.Learnt,
+  parameter-below t,
+  parameter.Post,
+  is-void-list-reads.Asked,
+  is-void-list-reads.Learnt,
+  add-parameter-reads.Asked,
+  add-parameter-reads.Learnt,
+) (list-at t) list.Post list-Inv-loop list-μ-loop
+list-parameter-requires t c κs = (omega (arith, c .before .before .before .before .before .before .before .before .before .before .pre .0), (c .before .before .before .before .before .loop .inv .reading .held, c .before .before .before .before .before .before .before .before .before .before .pre .1 .1 .0))
+
+pub list-enum-known-p : (t : ℕ) → list-lts.Need-enum-known-p (
+  kind-at-reads.Asked,
+  kind-at-reads.Learnt,
+  moved-reads.Asked,
+  moved-reads.Learnt,
+  parameters-end-reads.Asked,
+  parameters-end-reads.Learnt,
+  parameter-below t,
+  parameter.Post,
+  is-void-list-reads.Asked,
+  is-void-list-reads.Learnt,
+  add-parameter-reads.Asked,
+  add-parameter-reads.Learnt,
+) (list-at t) list.Post list-Inv-loop list-μ-loop
+list-enum-known-p t c = search needs
+
+pub list-same-length-4 : (t : ℕ) → list-lts.Need-same-length-4 (
+  kind-at-reads.Asked,
+  kind-at-reads.Learnt,
+  moved-reads.Asked,
+  moved-reads.Learnt,
+  parameters-end-reads.Asked,
+  parameters-end-reads.Learnt,
+  parameter-below t,
+  parameter.Post,
+  is-void-list-reads.Asked,
+  is-void-list-reads.Learnt,
+  add-parameter-reads.Asked,
+  add-parameter-reads.Learnt,
+) (list-at t) list.Post list-Inv-loop list-μ-loop
+list-same-length-4 t c = c .before .before .before .before .before .before .before .w .given ∙ (c .before .before .before .before .before .before .before .before .before .before .before .before .before .before .loop .inv .reading .held .long .words ∙ sym (c .before .before .before .before .before .before .before .before .before .before .before .before .before .before .before .before .before .before .before .pre .1 .0 .long .words))
+
+pub list-same-length-5 : (t : ℕ) → list-lts.Need-same-length-5 (
+  kind-at-reads.Asked,
+  kind-at-reads.Learnt,
+  moved-reads.Asked,
+  moved-reads.Learnt,
+  parameters-end-reads.Asked,
+  parameters-end-reads.Learnt,
+  parameter-below t,
+  parameter.Post,
+  is-void-list-reads.Asked,
+  is-void-list-reads.Learnt,
+  add-parameter-reads.Asked,
+  add-parameter-reads.Learnt,
+) (list-at t) list.Post list-Inv-loop list-μ-loop
+list-same-length-5 t c = c .before .before .before .before .before .d .given ∙ (c .before .before .before .before .before .before .before .before .before .before .before .before .before .before .loop .inv .reading .held .long .wides ∙ sym (c .before .before .before .before .before .before .before .before .before .before .before .before .before .before .before .before .before .before .before .pre .1 .0 .long .wides))
+
+pub list-same-length-6 : (t : ℕ) → list-lts.Need-same-length-6 (
+  kind-at-reads.Asked,
+  kind-at-reads.Learnt,
+  moved-reads.Asked,
+  moved-reads.Learnt,
+  parameters-end-reads.Asked,
+  parameters-end-reads.Learnt,
+  parameter-below t,
+  parameter.Post,
+  is-void-list-reads.Asked,
+  is-void-list-reads.Learnt,
+  add-parameter-reads.Asked,
+  add-parameter-reads.Learnt,
+) (list-at t) list.Post list-Inv-loop list-μ-loop
+list-same-length-6 t c = c .before .before .before .v .given ∙ (c .before .before .before .before .before .before .before .before .before .before .before .before .before .before .loop .inv .reading .held .long .signeds ∙ sym (c .before .before .before .before .before .before .before .before .before .before .before .before .before .before .before .before .before .before .before .pre .1 .0 .long .signeds))
+
+pub list-returns-2 : (t : ℕ) → list-lts.Need-returns-2 (
+  kind-at-reads.Asked,
+  kind-at-reads.Learnt,
+  moved-reads.Asked,
+  moved-reads.Learnt,
+  parameters-end-reads.Asked,
+  parameters-end-reads.Learnt,
+  parameter-below t,
+  parameter.Post,
+  is-void-list-reads.Asked,
+  is-void-list-reads.Learnt,
+  add-parameter-reads.Asked,
+  add-parameter-reads.Learnt,
+) (list-at t) list.Post list-Inv-loop list-μ-loop
+unfolding parametersFrom
+list-returns-2 t c = record { run = λ t₁ h. turn (c .before .before .before .before .before .before .before .before .before .before .before .before .before .before .loop .inv .reading .going _ (enough _) t₁ h) (λ t₂ f l h₂. is- _ _ (c .before .before .before .before .before .before .before .before .before .before .before .before .before .kind-at .ensures) (c .before .before .before .before .before .before .before .before .before .before .before .before .if1 .left) (refuse _ (c .before .before .before .before .before .before .before .before .parameter .ensures .run t₂ h₂) (ap typed (c .before .p .given .1)) refl)) }
+
+pub list-enum-known-p-2 : (t : ℕ) → list-lts.Need-enum-known-p-2 (
+  kind-at-reads.Asked,
+  kind-at-reads.Learnt,
+  moved-reads.Asked,
+  moved-reads.Learnt,
+  parameters-end-reads.Asked,
+  parameters-end-reads.Learnt,
+  parameter-below t,
+  parameter.Post,
+  is-void-list-reads.Asked,
+  is-void-list-reads.Learnt,
+  add-parameter-reads.Asked,
+  add-parameter-reads.Learnt,
+) (list-at t) list.Post list-Inv-loop list-μ-loop
+list-enum-known-p-2 t c = search needs
+
+pub list-is-void-list-requires : (t : ℕ) → list-lts.Need-is-void-list-requires (
+  kind-at-reads.Asked,
+  kind-at-reads.Learnt,
+  moved-reads.Asked,
+  moved-reads.Learnt,
+  parameters-end-reads.Asked,
+  parameters-end-reads.Learnt,
+  parameter-below t,
+  parameter.Post,
+  is-void-list-reads.Asked,
+  is-void-list-reads.Learnt,
+  add-parameter-reads.Asked,
+  add-parameter-reads.Learnt,
+) (list-at t) list.Post list-Inv-loop list-μ-loop
+list-is-void-list-requires t c κs = search needs
+
+pub list-parameters-end-requires-2 : (t : ℕ) → list-lts.Need-parameters-end-requires-2 (
+  kind-at-reads.Asked,
+  kind-at-reads.Learnt,
+  moved-reads.Asked,
+  moved-reads.Learnt,
+  parameters-end-reads.Asked,
+  parameters-end-reads.Learnt,
+  parameter-below t,
+  parameter.Post,
+  is-void-list-reads.Asked,
+  is-void-list-reads.Learnt,
+  add-parameter-reads.Asked,
+  add-parameter-reads.Learnt,
+) (list-at t) list.Post list-Inv-loop list-μ-loop
+list-parameters-end-requires-2 t c κs = search needs
+
+pub list-same-length-7 : (t : ℕ) → list-lts.Need-same-length-7 (
+  kind-at-reads.Asked,
+  kind-at-reads.Learnt,
+  moved-reads.Asked,
+  moved-reads.Learnt,
+  parameters-end-reads.Asked,
+  parameters-end-reads.Learnt,
+  parameter-below t,
+  parameter.Post,
+  is-void-list-reads.Asked,
+  is-void-list-reads.Learnt,
+  add-parameter-reads.Asked,
+  add-parameter-reads.Learnt,
+) (list-at t) list.Post list-Inv-loop list-μ-loop
+list-same-length-7 t c = c .before .before .before .before .before .before .before .before .before .before .w .given ∙ (c .before .before .before .before .before .before .before .before .before .before .before .before .before .before .before .before .before .loop .inv .reading .held .long .words ∙ sym (c .before .before .before .before .before .before .before .before .before .before .before .before .before .before .before .before .before .before .before .before .before .before .pre .1 .0 .long .words))
+
+pub list-same-length-8 : (t : ℕ) → list-lts.Need-same-length-8 (
+  kind-at-reads.Asked,
+  kind-at-reads.Learnt,
+  moved-reads.Asked,
+  moved-reads.Learnt,
+  parameters-end-reads.Asked,
+  parameters-end-reads.Learnt,
+  parameter-below t,
+  parameter.Post,
+  is-void-list-reads.Asked,
+  is-void-list-reads.Learnt,
+  add-parameter-reads.Asked,
+  add-parameter-reads.Learnt,
+) (list-at t) list.Post list-Inv-loop list-μ-loop
+list-same-length-8 t c = c .before .before .before .before .before .before .before .before .d .given ∙ (c .before .before .before .before .before .before .before .before .before .before .before .before .before .before .before .before .before .loop .inv .reading .held .long .wides ∙ sym (c .before .before .before .before .before .before .before .before .before .before .before .before .before .before .before .before .before .before .before .before .before .before .pre .1 .0 .long .wides))
+
+pub list-same-length-9 : (t : ℕ) → list-lts.Need-same-length-9 (
+  kind-at-reads.Asked,
+  kind-at-reads.Learnt,
+  moved-reads.Asked,
+  moved-reads.Learnt,
+  parameters-end-reads.Asked,
+  parameters-end-reads.Learnt,
+  parameter-below t,
+  parameter.Post,
+  is-void-list-reads.Asked,
+  is-void-list-reads.Learnt,
+  add-parameter-reads.Asked,
+  add-parameter-reads.Learnt,
+) (list-at t) list.Post list-Inv-loop list-μ-loop
+list-same-length-9 t c = c .before .before .before .before .before .before .v .given ∙ (c .before .before .before .before .before .before .before .before .before .before .before .before .before .before .before .before .before .loop .inv .reading .held .long .signeds ∙ sym (c .before .before .before .before .before .before .before .before .before .before .before .before .before .before .before .before .before .before .before .before .before .before .pre .1 .0 .long .signeds))
+
+pub list-returns-3 : (t : ℕ) → list-lts.Need-returns-3 (
+  kind-at-reads.Asked,
+  kind-at-reads.Learnt,
+  moved-reads.Asked,
+  moved-reads.Learnt,
+  parameters-end-reads.Asked,
+  parameters-end-reads.Learnt,
+  parameter-below t,
+  parameter.Post,
+  is-void-list-reads.Asked,
+  is-void-list-reads.Learnt,
+  add-parameter-reads.Asked,
+  add-parameter-reads.Learnt,
+) (list-at t) list.Post list-Inv-loop list-μ-loop
+unfolding parametersFrom
+list-returns-3 t c = record {
+  run = λ t₁ h. turn (c .before .before .before .before .before .before .before .before .before .before .before .before .before .before .before .before .before .loop .inv .reading .going _ (enough _) t₁ h) (λ t₂ f l h₂. is- _ _ (c .before .before .before .before .before .before .before .before .before .before .before .before .before .before .before .before .kind-at .ensures) (c .before .before .before .before .before .before .before .before .before .before .before .before .before .before .before .if1 .left) (call _ (c .before .before .before .before .before .before .before .before .before .before .before .parameter .ensures .run t₂ h₂) (ap typed (c .before .before .before .before .p2 .given .1))
+      (λ t₃ h₃. yes! _ _ _ (sym (c .before .before .is-void-list .ensures .of _ t₃) ∙ c .before .if2 .taken) (c .parameters-end2 .ensures .with (c .before .before .before .before .before .before .before .before .before .before .before .before .before .before .before .before .before .before .before .before .before .before .args .numbers .now) (model (c .before .before .before .before .before .before .before .before .before .before .before .before .before .before .before .before .before .before .before .before .before .before .args .m)) (levels (tokens (c .before .before .before .before .before .before .before .before .before .before .before .before .before .before .before .before .before .before .before .before .before .before .args .kinds .now) (c .before .before .before .before .before .before .before .before .before .before .before .before .before .before .before .before .before .before .before .before .before .before .args .numbers .now)) (model (c .before .before .before .before .before .before .before .before .before .before .before .before .before .before .before .before .before .before .before .before .before .before .args .m)) (c .before .before .before .before .before .before .before .before .before .before .before .before .before .before .before .before .before .before .before .before .before .before .args .room)) _ _ _ .run t₃ h₃))));
+}
+
+pub list-add-parameter-requires : (t : ℕ) → list-lts.Need-add-parameter-requires (
+  kind-at-reads.Asked,
+  kind-at-reads.Learnt,
+  moved-reads.Asked,
+  moved-reads.Learnt,
+  parameters-end-reads.Asked,
+  parameters-end-reads.Learnt,
+  parameter-below t,
+  parameter.Post,
+  is-void-list-reads.Asked,
+  is-void-list-reads.Learnt,
+  add-parameter-reads.Asked,
+  add-parameter-reads.Learnt,
+) (list-at t) list.Post list-Inv-loop list-μ-loop
+list-add-parameter-requires t c κs = (held-on (c .before .before .before .before .before .before .before .before .before .before .before .before .before .parameter .ensures) (c .before .before .before .before .before .before .before .before .before .before .before .before .before .before .before .before .before .before .before .loop .inv .reading .held) (ap typed (c .before .before .before .before .before .before .p2 .given .1)), c .before .before .before .before .before .before .before .before .before .before .before .before .before .before .before .before .before .before .before .before .before .before .before .before .pre .1 .1 .1)
+
+pub list-enum-known-r : (t : ℕ) → list-lts.Need-enum-known-r (
+  kind-at-reads.Asked,
+  kind-at-reads.Learnt,
+  moved-reads.Asked,
+  moved-reads.Learnt,
+  parameters-end-reads.Asked,
+  parameters-end-reads.Learnt,
+  parameter-below t,
+  parameter.Post,
+  is-void-list-reads.Asked,
+  is-void-list-reads.Learnt,
+  add-parameter-reads.Asked,
+  add-parameter-reads.Learnt,
+) (list-at t) list.Post list-Inv-loop list-μ-loop
+list-enum-known-r t c = search needs
+
+pub list-same-length-10 : (t : ℕ) → list-lts.Need-same-length-10 (
+  kind-at-reads.Asked,
+  kind-at-reads.Learnt,
+  moved-reads.Asked,
+  moved-reads.Learnt,
+  parameters-end-reads.Asked,
+  parameters-end-reads.Learnt,
+  parameter-below t,
+  parameter.Post,
+  is-void-list-reads.Asked,
+  is-void-list-reads.Learnt,
+  add-parameter-reads.Asked,
+  add-parameter-reads.Learnt,
+) (list-at t) list.Post list-Inv-loop list-μ-loop
+list-same-length-10 t c = c .before .before .before .before .before .before .before .w2 .given ∙ (c .before .before .before .before .before .before .before .before .before .before .before .before .before .before .before .before .before .before .before .before .before .w .given ∙ (c .before .before .before .before .before .before .before .before .before .before .before .before .before .before .before .before .before .before .before .before .before .before .before .before .before .before .before .before .loop .inv .reading .held .long .words ∙ sym (c .before .before .before .before .before .before .before .before .before .before .before .before .before .before .before .before .before .before .before .before .before .before .before .before .before .before .before .before .before .before .before .before .before .pre .1 .0 .long .words)))
+
+pub list-same-length-11 : (t : ℕ) → list-lts.Need-same-length-11 (
+  kind-at-reads.Asked,
+  kind-at-reads.Learnt,
+  moved-reads.Asked,
+  moved-reads.Learnt,
+  parameters-end-reads.Asked,
+  parameters-end-reads.Learnt,
+  parameter-below t,
+  parameter.Post,
+  is-void-list-reads.Asked,
+  is-void-list-reads.Learnt,
+  add-parameter-reads.Asked,
+  add-parameter-reads.Learnt,
+) (list-at t) list.Post list-Inv-loop list-μ-loop
+list-same-length-11 t c = c .before .before .before .before .before .d2 .given ∙ (c .before .before .before .before .before .before .before .before .before .before .before .before .before .before .before .before .before .before .before .d .given ∙ (c .before .before .before .before .before .before .before .before .before .before .before .before .before .before .before .before .before .before .before .before .before .before .before .before .before .before .before .before .loop .inv .reading .held .long .wides ∙ sym (c .before .before .before .before .before .before .before .before .before .before .before .before .before .before .before .before .before .before .before .before .before .before .before .before .before .before .before .before .before .before .before .before .before .pre .1 .0 .long .wides)))
+
+pub list-same-length-12 : (t : ℕ) → list-lts.Need-same-length-12 (
+  kind-at-reads.Asked,
+  kind-at-reads.Learnt,
+  moved-reads.Asked,
+  moved-reads.Learnt,
+  parameters-end-reads.Asked,
+  parameters-end-reads.Learnt,
+  parameter-below t,
+  parameter.Post,
+  is-void-list-reads.Asked,
+  is-void-list-reads.Learnt,
+  add-parameter-reads.Asked,
+  add-parameter-reads.Learnt,
+) (list-at t) list.Post list-Inv-loop list-μ-loop
+list-same-length-12 t c = c .before .before .before .v2 .given ∙ (c .before .before .before .before .before .before .before .before .before .before .before .before .before .before .before .before .before .v .given ∙ (c .before .before .before .before .before .before .before .before .before .before .before .before .before .before .before .before .before .before .before .before .before .before .before .before .before .before .before .before .loop .inv .reading .held .long .signeds ∙ sym (c .before .before .before .before .before .before .before .before .before .before .before .before .before .before .before .before .before .before .before .before .before .before .before .before .before .before .before .before .before .before .before .before .before .pre .1 .0 .long .signeds)))
+
+pub list-returns-4 : (t : ℕ) → list-lts.Need-returns-4 (
+  kind-at-reads.Asked,
+  kind-at-reads.Learnt,
+  moved-reads.Asked,
+  moved-reads.Learnt,
+  parameters-end-reads.Asked,
+  parameters-end-reads.Learnt,
+  parameter-below t,
+  parameter.Post,
+  is-void-list-reads.Asked,
+  is-void-list-reads.Learnt,
+  add-parameter-reads.Asked,
+  add-parameter-reads.Learnt,
+) (list-at t) list.Post list-Inv-loop list-μ-loop
+unfolding parametersFrom
+list-returns-4 t c = record {
+  run = λ t₁ h. turn (c .before .before .before .before .before .before .before .before .before .before .before .before .before .before .before .before .before .before .before .before .before .before .before .before .before .before .before .before .loop .inv .reading .going _ (enough _) t₁ h) (λ t₂ f l h₂. is- _ _ (c .before .before .before .before .before .before .before .before .before .before .before .before .before .before .before .before .before .before .before .before .before .before .before .before .before .before .before .kind-at .ensures) (c .before .before .before .before .before .before .before .before .before .before .before .before .before .before .before .before .before .before .before .before .before .before .before .before .before .before .if1 .left) (call _ (c .before .before .before .before .before .before .before .before .before .before .before .before .before .before .before .before .before .before .before .before .before .before .parameter .ensures .run t₂ h₂) (ap typed (c .before .before .before .before .before .before .before .before .before .before .before .before .before .before .before .p2 .given .1))
+      (λ t₃ h₃. nay! _ _ _ (sym (c .before .before .before .before .before .before .before .before .before .before .before .before .before .is-void-list .ensures .of _ t₃) ∙ c .before .before .before .before .before .before .before .before .before .before .before .before .if2 .left) (entered _ _ _ _ _ _ (refuse _ (c .before .before .before .before .before .before .before .before .add-parameter .ensures .run t₃ h₃) (ap step (c .before .r .given .1)) refl)))));
+}
+
+pub list-enum-known-r-2 : (t : ℕ) → list-lts.Need-enum-known-r-2 (
+  kind-at-reads.Asked,
+  kind-at-reads.Learnt,
+  moved-reads.Asked,
+  moved-reads.Learnt,
+  parameters-end-reads.Asked,
+  parameters-end-reads.Learnt,
+  parameter-below t,
+  parameter.Post,
+  is-void-list-reads.Asked,
+  is-void-list-reads.Learnt,
+  add-parameter-reads.Asked,
+  add-parameter-reads.Learnt,
+) (list-at t) list.Post list-Inv-loop list-μ-loop
+list-enum-known-r-2 t c = search needs
+
+pub list-add-n : (t : ℕ) → list-lts.Need-add-n (
+  kind-at-reads.Asked,
+  kind-at-reads.Learnt,
+  moved-reads.Asked,
+  moved-reads.Learnt,
+  parameters-end-reads.Asked,
+  parameters-end-reads.Learnt,
+  parameter-below t,
+  parameter.Post,
+  is-void-list-reads.Asked,
+  is-void-list-reads.Learnt,
+  add-parameter-reads.Asked,
+  add-parameter-reads.Learnt,
+) (list-at t) list.Post list-Inv-loop list-μ-loop
+list-add-n t c = omega (arith, c .before .before .before .before .before .before .before .before .before .before .before .before .before .before .before .before .before .before .before .before .before .before .before .before .before .before .before .before .loop .inv .few, c .before .before .before .before .before .before .before .before .before .before .before .before .before .before .before .before .before .before .before .before .before .before .before .before .before .before .before .before .before .before .before .before .before .pre .1 .1 .0 .few)
+
+pub list-kind-at-requires-2 : (t : ℕ) → list-lts.Need-kind-at-requires-2 (
+  kind-at-reads.Asked,
+  kind-at-reads.Learnt,
+  moved-reads.Asked,
+  moved-reads.Learnt,
+  parameters-end-reads.Asked,
+  parameters-end-reads.Learnt,
+  parameter-below t,
+  parameter.Post,
+  is-void-list-reads.Asked,
+  is-void-list-reads.Learnt,
+  add-parameter-reads.Asked,
+  add-parameter-reads.Learnt,
+) (list-at t) list.Post list-Inv-loop list-μ-loop
+list-kind-at-requires-2 t c κs = search needs
+
+pub list-parameters-end-requires-3 : (t : ℕ) → list-lts.Need-parameters-end-requires-3 (
+  kind-at-reads.Asked,
+  kind-at-reads.Learnt,
+  moved-reads.Asked,
+  moved-reads.Learnt,
+  parameters-end-reads.Asked,
+  parameters-end-reads.Learnt,
+  parameter-below t,
+  parameter.Post,
+  is-void-list-reads.Asked,
+  is-void-list-reads.Learnt,
+  add-parameter-reads.Asked,
+  add-parameter-reads.Learnt,
+) (list-at t) list.Post list-Inv-loop list-μ-loop
+list-parameters-end-requires-3 t c κs = search needs
+
+pub list-same-length-13 : (t : ℕ) → list-lts.Need-same-length-13 (
+  kind-at-reads.Asked,
+  kind-at-reads.Learnt,
+  moved-reads.Asked,
+  moved-reads.Learnt,
+  parameters-end-reads.Asked,
+  parameters-end-reads.Learnt,
+  parameter-below t,
+  parameter.Post,
+  is-void-list-reads.Asked,
+  is-void-list-reads.Learnt,
+  add-parameter-reads.Asked,
+  add-parameter-reads.Learnt,
+) (list-at t) list.Post list-Inv-loop list-μ-loop
+list-same-length-13 t c = c .before .before .before .before .before .before .before .before .before .before .w2 .given ∙ (c .before .before .before .before .before .before .before .before .before .before .before .before .before .before .before .before .before .before .before .before .before .before .before .before .w .given ∙ (c .before .before .before .before .before .before .before .before .before .before .before .before .before .before .before .before .before .before .before .before .before .before .before .before .before .before .before .before .before .before .before .loop .inv .reading .held .long .words ∙ sym (c .before .before .before .before .before .before .before .before .before .before .before .before .before .before .before .before .before .before .before .before .before .before .before .before .before .before .before .before .before .before .before .before .before .before .before .before .pre .1 .0 .long .words)))
+
+pub list-same-length-14 : (t : ℕ) → list-lts.Need-same-length-14 (
+  kind-at-reads.Asked,
+  kind-at-reads.Learnt,
+  moved-reads.Asked,
+  moved-reads.Learnt,
+  parameters-end-reads.Asked,
+  parameters-end-reads.Learnt,
+  parameter-below t,
+  parameter.Post,
+  is-void-list-reads.Asked,
+  is-void-list-reads.Learnt,
+  add-parameter-reads.Asked,
+  add-parameter-reads.Learnt,
+) (list-at t) list.Post list-Inv-loop list-μ-loop
+list-same-length-14 t c = c .before .before .before .before .before .before .before .before .d2 .given ∙ (c .before .before .before .before .before .before .before .before .before .before .before .before .before .before .before .before .before .before .before .before .before .before .d .given ∙ (c .before .before .before .before .before .before .before .before .before .before .before .before .before .before .before .before .before .before .before .before .before .before .before .before .before .before .before .before .before .before .before .loop .inv .reading .held .long .wides ∙ sym (c .before .before .before .before .before .before .before .before .before .before .before .before .before .before .before .before .before .before .before .before .before .before .before .before .before .before .before .before .before .before .before .before .before .before .before .before .pre .1 .0 .long .wides)))
+
+pub list-same-length-15 : (t : ℕ) → list-lts.Need-same-length-15 (
+  kind-at-reads.Asked,
+  kind-at-reads.Learnt,
+  moved-reads.Asked,
+  moved-reads.Learnt,
+  parameters-end-reads.Asked,
+  parameters-end-reads.Learnt,
+  parameter-below t,
+  parameter.Post,
+  is-void-list-reads.Asked,
+  is-void-list-reads.Learnt,
+  add-parameter-reads.Asked,
+  add-parameter-reads.Learnt,
+) (list-at t) list.Post list-Inv-loop list-μ-loop
+list-same-length-15 t c = c .before .before .before .before .before .before .v2 .given ∙ (c .before .before .before .before .before .before .before .before .before .before .before .before .before .before .before .before .before .before .before .before .v .given ∙ (c .before .before .before .before .before .before .before .before .before .before .before .before .before .before .before .before .before .before .before .before .before .before .before .before .before .before .before .before .before .before .before .loop .inv .reading .held .long .signeds ∙ sym (c .before .before .before .before .before .before .before .before .before .before .before .before .before .before .before .before .before .before .before .before .before .before .before .before .before .before .before .before .before .before .before .before .before .before .before .before .pre .1 .0 .long .signeds)))
+
+pub list-returns-5 : (t : ℕ) → list-lts.Need-returns-5 (
+  kind-at-reads.Asked,
+  kind-at-reads.Learnt,
+  moved-reads.Asked,
+  moved-reads.Learnt,
+  parameters-end-reads.Asked,
+  parameters-end-reads.Learnt,
+  parameter-below t,
+  parameter.Post,
+  is-void-list-reads.Asked,
+  is-void-list-reads.Learnt,
+  add-parameter-reads.Asked,
+  add-parameter-reads.Learnt,
+) (list-at t) list.Post list-Inv-loop list-μ-loop
+unfolding parametersFrom
+list-returns-5 t c = record {
+  run = λ t₁ h. turn (c .before .before .before .before .before .before .before .before .before .before .before .before .before .before .before .before .before .before .before .before .before .before .before .before .before .before .before .before .before .before .before .loop .inv .reading .going _ (enough _) t₁ h) (λ t₂ f l h₂. is- _ _ (c .before .before .before .before .before .before .before .before .before .before .before .before .before .before .before .before .before .before .before .before .before .before .before .before .before .before .before .before .before .before .kind-at .ensures) (c .before .before .before .before .before .before .before .before .before .before .before .before .before .before .before .before .before .before .before .before .before .before .before .before .before .before .before .before .before .if1 .left) (call _ (c .before .before .before .before .before .before .before .before .before .before .before .before .before .before .before .before .before .before .before .before .before .before .before .before .before .parameter .ensures .run t₂ h₂) (ap typed (c .before .before .before .before .before .before .before .before .before .before .before .before .before .before .before .before .before .before .p2 .given .1))
+      (λ t₃ h₃. nay! _ _ _ (sym (c .before .before .before .before .before .before .before .before .before .before .before .before .before .before .before .before .is-void-list .ensures .of _ t₃) ∙ c .before .before .before .before .before .before .before .before .before .before .before .before .before .before .before .if2 .left) (entered _ _ _ _ _ _ (call _ (c .before .before .before .before .before .before .before .before .before .before .before .add-parameter .ensures .run t₃ h₃) (ap step (c .before .before .before .before .r2 .given .1)) (λ t₄ h₄. is- _ _ (c .before .before .kind-at2 .ensures) (c .before .if3 .taken) (counted-end _ _ _ _ _ _ _ (c .parameters-end3 .ensures .with (c .before .before .before .before .before .before .before .before .before .before .before .before .before .before .before .before .before .before .before .before .before .before .before .before .before .before .before .before .before .before .before .before .before .before .before .before .args .numbers .now) (model (c .before .before .before .before .before .before .before .before .before .before .before .before .before .before .before .before .before .before .before .before .before .before .before .before .before .before .before .before .before .before .before .before .before .before .before .before .args .m)) (levels (tokens (c .before .before .before .before .before .before .before .before .before .before .before .before .before .before .before .before .before .before .before .before .before .before .before .before .before .before .before .before .before .before .before .before .before .before .before .before .args .kinds .now) (c .before .before .before .before .before .before .before .before .before .before .before .before .before .before .before .before .before .before .before .before .before .before .before .before .before .before .before .before .before .before .before .before .before .before .before .before .args .numbers .now)) (model (c .before .before .before .before .before .before .before .before .before .before .before .before .before .before .before .before .before .before .before .before .before .before .before .before .before .before .before .before .before .before .before .before .before .before .before .before .args .m)) (c .before .before .before .before .before .before .before .before .before .before .before .before .before .before .before .before .before .before .before .before .before .before .before .before .before .before .before .before .before .before .before .before .before .before .before .before .args .room)) _ _ _ .run t₄ h₄))))))));
+}
+
+pub list-add-moved-2 : (t : ℕ) → list-lts.Need-add-moved-2 (
+  kind-at-reads.Asked,
+  kind-at-reads.Learnt,
+  moved-reads.Asked,
+  moved-reads.Learnt,
+  parameters-end-reads.Asked,
+  parameters-end-reads.Learnt,
+  parameter-below t,
+  parameter.Post,
+  is-void-list-reads.Asked,
+  is-void-list-reads.Learnt,
+  add-parameter-reads.Asked,
+  add-parameter-reads.Learnt,
+) (list-at t) list.Post list-Inv-loop list-μ-loop
+list-add-moved-2 t c = omega (arith, c .before .before .before .before .before .before .before .before .before .before .before .before .before .before .before .before .before .before .before .before .before .before .before .before .before .before .before .before .before .before .before .before .before .before .before .good .0 .1, there (c .before .kind-at2 .ensures) (c .if3 .left))
+
+pub list-moved-requires-2 : (t : ℕ) → list-lts.Need-moved-requires-2 (
+  kind-at-reads.Asked,
+  kind-at-reads.Learnt,
+  moved-reads.Asked,
+  moved-reads.Learnt,
+  parameters-end-reads.Asked,
+  parameters-end-reads.Learnt,
+  parameter-below t,
+  parameter.Post,
+  is-void-list-reads.Asked,
+  is-void-list-reads.Learnt,
+  add-parameter-reads.Asked,
+  add-parameter-reads.Learnt,
+) (list-at t) list.Post list-Inv-loop list-μ-loop
+list-moved-requires-2 t c κs = search needs
+
+pub list-loop-less : (t : ℕ) → list-lts.Need-loop-less (
+  kind-at-reads.Asked,
+  kind-at-reads.Learnt,
+  moved-reads.Asked,
+  moved-reads.Learnt,
+  parameters-end-reads.Asked,
+  parameters-end-reads.Learnt,
+  parameter-below t,
+  parameter.Post,
+  is-void-list-reads.Asked,
+  is-void-list-reads.Learnt,
+  add-parameter-reads.Asked,
+  add-parameter-reads.Learnt,
+) (list-at t) list.Post list-Inv-loop list-μ-loop
+list-loop-less t c = (fewer _ _ (c .moved2 .ensures) (entry-on (typed-on (c .before .before .before .before .before .before .before .before .before .before .before .before .before .before .before .before .before .before .before .before .before .before .before .before .before .parameter .ensures) (c .before .before .before .before .before .before .before .before .before .before .before .before .before .before .before .before .before .before .before .before .before .before .before .before .before .before .before .before .before .before .before .loop .inv .reading .held) (ap typed (c .before .before .before .before .before .before .before .before .before .before .before .before .before .before .before .before .before .before .p2 .given .1)) (parameter-on _ _ _ (levels-on _ _ _))) (stays (c .before .before .before .before .before .before .before .before .before .before .before .add-parameter .ensures) (held-on (c .before .before .before .before .before .before .before .before .before .before .before .before .before .before .before .before .before .before .before .before .before .before .before .before .before .parameter .ensures) (c .before .before .before .before .before .before .before .before .before .before .before .before .before .before .before .before .before .before .before .before .before .before .before .before .before .before .before .before .before .before .before .loop .inv .reading .held) (ap typed (c .before .before .before .before .before .before .before .before .before .before .before .before .before .before .before .before .before .before .p2 .given .1))) (ap step (c .before .before .before .before .r2 .given .1)) (addedParameter-stays _ _ _ _))) (there (c .before .before .kind-at2 .ensures) (c .before .if3 .left)))
+
+pub list-loop-again : (t : ℕ) → list-lts.Need-loop-again (
+  kind-at-reads.Asked,
+  kind-at-reads.Learnt,
+  moved-reads.Asked,
+  moved-reads.Learnt,
+  parameters-end-reads.Asked,
+  parameters-end-reads.Learnt,
+  parameter-below t,
+  parameter.Post,
+  is-void-list-reads.Asked,
+  is-void-list-reads.Learnt,
+  add-parameter-reads.Asked,
+  add-parameter-reads.Learnt,
+) (list-at t) list.Post list-Inv-loop list-μ-loop
+unfolding parametersFrom
+list-loop-again t c = record {
+  reading = record {
+    held = held-at (c .moved2 .ensures) (held-on (c .before .before .before .before .before .before .before .before .before .before .before .add-parameter .ensures) (held-on (c .before .before .before .before .before .before .before .before .before .before .before .before .before .before .before .before .before .before .before .before .before .before .before .before .before .parameter .ensures) (c .before .before .before .before .before .before .before .before .before .before .before .before .before .before .before .before .before .before .before .before .before .before .before .before .before .before .before .before .before .before .before .loop .inv .reading .held) (ap typed (c .before .before .before .before .before .before .before .before .before .before .before .before .before .before .before .before .before .before .p2 .given .1))) (ap step (c .before .before .before .before .r2 .given .1)));
+    going = λ k p t₁ h. turn (c .before .before .before .before .before .before .before .before .before .before .before .before .before .before .before .before .before .before .before .before .before .before .before .before .before .before .before .before .before .before .before .loop .inv .reading .going k p t₁ h) (λ t₂ f l h₂. is- _ _ (c .before .before .before .before .before .before .before .before .before .before .before .before .before .before .before .before .before .before .before .before .before .before .before .before .before .before .before .before .before .before .kind-at .ensures) (c .before .before .before .before .before .before .before .before .before .before .before .before .before .before .before .before .before .before .before .before .before .before .before .before .before .before .before .before .before .if1 .left) (call _ (c .before .before .before .before .before .before .before .before .before .before .before .before .before .before .before .before .before .before .before .before .before .before .before .before .before .parameter .ensures .run t₂ h₂) (ap typed (c .before .before .before .before .before .before .before .before .before .before .before .before .before .before .before .before .before .before .p2 .given .1))
+        (λ t₃ h₃. nay! _ _ _ (sym (c .before .before .before .before .before .before .before .before .before .before .before .before .before .before .before .before .is-void-list .ensures .of _ t₃) ∙ c .before .before .before .before .before .before .before .before .before .before .before .before .before .before .before .if2 .left) (entered _ _ _ _ _ _ (call _ (c .before .before .before .before .before .before .before .before .before .before .before .add-parameter .ensures .run t₃ h₃) (ap step (c .before .before .before .before .r2 .given .1)) (λ t₄ h₄. is+ _ _ (c .before .before .kind-at2 .ensures) (c .before .if3 .left) (counted-on (tokens (c .before .before .before .before .before .before .before .before .before .before .before .before .before .before .before .before .before .before .before .before .before .before .before .before .before .before .before .before .before .before .before .before .before .before .before .before .args .kinds .now) (c .before .before .before .before .before .before .before .before .before .before .before .before .before .before .before .before .before .before .before .before .before .before .before .before .before .before .before .before .before .before .before .before .before .before .before .before .args .numbers .now)) (model (c .before .before .before .before .before .before .before .before .before .before .before .before .before .before .before .before .before .before .before .before .before .before .before .before .before .before .before .before .before .before .before .before .before .before .before .before .args .m)) (levels (tokens (c .before .before .before .before .before .before .before .before .before .before .before .before .before .before .before .before .before .before .before .before .before .before .before .before .before .before .before .before .before .before .before .before .before .before .before .before .args .kinds .now) (c .before .before .before .before .before .before .before .before .before .before .before .before .before .before .before .before .before .before .before .before .before .before .before .before .before .before .before .before .before .before .before .before .before .before .before .before .args .numbers .now)) (model (c .before .before .before .before .before .before .before .before .before .before .before .before .before .before .before .before .before .before .before .before .before .before .before .before .before .before .before .before .before .before .before .before .before .before .before .before .args .m)) (c .before .before .before .before .before .before .before .before .before .before .before .before .before .before .before .before .before .before .before .before .before .before .before .before .before .before .before .before .before .before .before .before .before .before .before .before .args .room)) (c .before .before .before .before .before .before .before .before .before .before .before .before .before .before .before .before .before .before .before .before .before .before .before .before .before .before .before .before .before .before .before .before .before .before .before .before .args .first) (c .before .before .before .before .before .before .before .before .before .before .before .before .before .before .before .before .before .before .before .before .before .before .before .before .before .before .before .before .before .before .before .loop .n) (state (movedTo (c .before .before .before .before .r2 .given .0 .0) (c .before .before .before .before .r2 .given .0 .0 .at + 1)) t₄) f (starts-at (c .moved2 .ensures) h₄ (under (fewer _ _ (c .moved2 .ensures) (entry-on (typed-on (c .before .before .before .before .before .before .before .before .before .before .before .before .before .before .before .before .before .before .before .before .before .before .before .before .before .parameter .ensures) (c .before .before .before .before .before .before .before .before .before .before .before .before .before .before .before .before .before .before .before .before .before .before .before .before .before .before .before .before .before .before .before .loop .inv .reading .held) (ap typed (c .before .before .before .before .before .before .before .before .before .before .before .before .before .before .before .before .before .before .p2 .given .1)) (parameter-on _ _ _ (levels-on _ _ _))) (stays (c .before .before .before .before .before .before .before .before .before .before .before .add-parameter .ensures) (held-on (c .before .before .before .before .before .before .before .before .before .before .before .before .before .before .before .before .before .before .before .before .before .before .before .before .before .parameter .ensures) (c .before .before .before .before .before .before .before .before .before .before .before .before .before .before .before .before .before .before .before .before .before .before .before .before .before .before .before .before .before .before .before .loop .inv .reading .held) (ap typed (c .before .before .before .before .before .before .before .before .before .before .before .before .before .before .before .before .before .before .p2 .given .1))) (ap step (c .before .before .before .before .r2 .given .1)) (addedParameter-stays _ _ _ _))) (there (c .before .before .kind-at2 .ensures) (c .before .if3 .left))) l)))))))));
+  };
+  passed = one-more (c .moved2 .ensures) (c .before .before .before .before .before .before .before .before .before .before .before .before .before .before .before .before .before .before .before .before .before .before .before .before .before .before .before .before .before .before .before .loop .inv .passed) (entry-on (typed-on (c .before .before .before .before .before .before .before .before .before .before .before .before .before .before .before .before .before .before .before .before .before .before .before .before .before .parameter .ensures) (c .before .before .before .before .before .before .before .before .before .before .before .before .before .before .before .before .before .before .before .before .before .before .before .before .before .before .before .before .before .before .before .loop .inv .reading .held) (ap typed (c .before .before .before .before .before .before .before .before .before .before .before .before .before .before .before .before .before .before .p2 .given .1)) (parameter-on _ _ _ (levels-on _ _ _))) (stays (c .before .before .before .before .before .before .before .before .before .before .before .add-parameter .ensures) (held-on (c .before .before .before .before .before .before .before .before .before .before .before .before .before .before .before .before .before .before .before .before .before .before .before .before .before .parameter .ensures) (c .before .before .before .before .before .before .before .before .before .before .before .before .before .before .before .before .before .before .before .before .before .before .before .before .before .before .before .before .before .before .before .loop .inv .reading .held) (ap typed (c .before .before .before .before .before .before .before .before .before .before .before .before .before .before .before .before .before .before .p2 .given .1))) (ap step (c .before .before .before .before .r2 .given .1)) (addedParameter-stays _ _ _ _)));
+  few = one-fewer (c .before .before .before .before .before .before .before .before .before .before .before .before .before .before .before .before .before .before .before .before .before .before .before .before .before .before .before .before .before .before .before .loop .inv .passed) (entry-on (typed-on (c .before .before .before .before .before .before .before .before .before .before .before .before .before .before .before .before .before .before .before .before .before .before .before .before .before .parameter .ensures) (c .before .before .before .before .before .before .before .before .before .before .before .before .before .before .before .before .before .before .before .before .before .before .before .before .before .before .before .before .before .before .before .loop .inv .reading .held) (ap typed (c .before .before .before .before .before .before .before .before .before .before .before .before .before .before .before .before .before .before .p2 .given .1)) (parameter-on _ _ _ (levels-on _ _ _))) (stays (c .before .before .before .before .before .before .before .before .before .before .before .add-parameter .ensures) (held-on (c .before .before .before .before .before .before .before .before .before .before .before .before .before .before .before .before .before .before .before .before .before .before .before .before .before .parameter .ensures) (c .before .before .before .before .before .before .before .before .before .before .before .before .before .before .before .before .before .before .before .before .before .before .before .before .before .before .before .before .before .before .before .loop .inv .reading .held) (ap typed (c .before .before .before .before .before .before .before .before .before .before .before .before .before .before .before .before .before .before .p2 .given .1))) (ap step (c .before .before .before .before .r2 .given .1)) (addedParameter-stays _ _ _ _))) (there (c .before .before .kind-at2 .ensures) (c .before .if3 .left));
+}
