@@ -2,3 +2,4 @@ pub mod Front
 pub mod Parsing
 pub mod Telling
 pub mod Derived
+pub mod Walked

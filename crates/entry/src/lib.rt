@@ -22,6 +22,8 @@ ghost use Rattle.words.specs.Meaning.{model};
 ghost use Rattle.table.specs.Held.{Encodes};
 ghost use Rattle.laws.specs.Columns.{Columns};
 ghost use Rattle.clearing.specs.Slices.{lent};
+ghost use Rattle.definition.specs.Lent.{longEnough};
+ghost use Rattle.entry.specs.Walking.{Walkable};
 ghost use Rattle.entry.specs.Answers.{entryOf, lexed, firstCursor, countsFrom, Parses, Read, Reads, Cleared, Enough, Leaves, Tells, rejectedAt, out, answered};
 
 // A lent slice must be as long.
@@ -319,6 +321,7 @@ pub fn translation_unit(
     v: &mut [i64],
 ) -> Outcome
     ensures { λ r. ⌜ out r (lent (now (w .exit)) (now (d .exit)) (now (v .exit))) ≡ answered (lent (now (w .entry)) (now (d .entry)) (now (v .entry))) model wholeHeader (now (text .entry)) ⌝ }
+    ensures { λ r. ⌜ Walkable model (longEnough (lent (now (w .entry)) (now (d .entry)) (now (v .entry)))) wholeHeader (now (text .entry)) ⌝ }
 {
     read(Entry::WholeHeader, text, model, w, d, v)
 }
@@ -326,6 +329,7 @@ pub fn translation_unit(
 // One declaration.
 pub fn declaration(text: &[u8], model: u32, w: &mut [u32], d: &mut [u64], v: &mut [i64]) -> Outcome
     ensures { λ r. ⌜ out r (lent (now (w .exit)) (now (d .exit)) (now (v .exit))) ≡ answered (lent (now (w .entry)) (now (d .entry)) (now (v .entry))) model singleDeclaration (now (text .entry)) ⌝ }
+    ensures { λ r. ⌜ Walkable model (longEnough (lent (now (w .entry)) (now (d .entry)) (now (v .entry)))) singleDeclaration (now (text .entry)) ⌝ }
 {
     read(Entry::SingleDeclaration, text, model, w, d, v)
 }

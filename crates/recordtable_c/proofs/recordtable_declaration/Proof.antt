@@ -26,7 +26,7 @@ same-length-4 : tie.Need-same-length-4
 same-length-4 c = search needs
 
 returns : tie.Need-returns
-returns c = exported _ _ _ _ _ _ _ _ _ (c .before .before .before .before .before .before .before .before .before .declaration .ensures) (c .before .before .tell .ensures)
+returns c = exported _ _ _ _ _ _ _ _ _ (c .before .before .before .before .before .before .before .before .before .declaration .ensures .0) (c .before .before .tell .ensures)
 
 pub recordtable-declaration-spec : {M : Type 1} → statement M
 recordtable-declaration-spec =

@@ -26,7 +26,7 @@ same-length-4 : tie.Need-same-length-4
 same-length-4 c = search needs
 
 returns : tie.Need-returns
-returns c = exported _ _ _ _ _ _ _ _ _ (c .before .before .before .before .before .before .before .before .before .translation-unit .ensures) (c .before .before .tell .ensures)
+returns c = exported _ _ _ _ _ _ _ _ _ (c .before .before .before .before .before .before .before .before .before .translation-unit .ensures .0) (c .before .before .tell .ensures)
 
 pub recordtable-unit-spec : {M : Type 1} → statement M
 recordtable-unit-spec =
