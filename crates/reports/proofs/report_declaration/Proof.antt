@@ -12,7 +12,7 @@ declaration-requires : tie.Need-declaration-requires
 declaration-requires c κs = search needs
 
 put-outcome-requires : tie.Need-put-outcome-requires
-put-outcome-requires c κs = record { of = _; entry = singleDeclaration; is = c .before .before .before .before .before .before .before .before .before .declaration .ensures }
+put-outcome-requires c κs = record { of = _; entry = singleDeclaration; is = c .before .before .before .before .before .before .before .before .before .declaration .ensures .0 }
 
 same-length : tie.Need-same-length
 same-length c = search needs
@@ -27,7 +27,7 @@ same-length-4 : tie.Need-same-length-4
 same-length-4 c = search needs
 
 returns : tie.Need-returns
-returns c = (c .before .before .put-outcome .ensures .of _ singleDeclaration (c .before .before .before .before .before .before .before .before .before .before .before .before .declaration .ensures), left-as _ _ singleDeclaration _ _ _ _ _ (c .before .before .before .before .before .before .before .before .before .before .before .before .declaration .ensures))
+returns c = (c .before .before .put-outcome .ensures .of _ singleDeclaration (c .before .before .before .before .before .before .before .before .before .before .before .before .declaration .ensures .0), left-as _ _ singleDeclaration _ _ _ _ _ (c .before .before .before .before .before .before .before .before .before .before .before .before .declaration .ensures .0))
 
 pub report-declaration-spec : {M : Type 1} → statement M
 report-declaration-spec =

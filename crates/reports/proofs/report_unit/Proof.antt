@@ -12,7 +12,7 @@ translation-unit-requires : tie.Need-translation-unit-requires
 translation-unit-requires c κs = search needs
 
 put-outcome-requires : tie.Need-put-outcome-requires
-put-outcome-requires c κs = record { of = _; entry = wholeHeader; is = c .before .before .before .before .before .before .before .before .before .translation-unit .ensures }
+put-outcome-requires c κs = record { of = _; entry = wholeHeader; is = c .before .before .before .before .before .before .before .before .before .translation-unit .ensures .0 }
 
 same-length : tie.Need-same-length
 same-length c = search needs
@@ -27,7 +27,7 @@ same-length-4 : tie.Need-same-length-4
 same-length-4 c = search needs
 
 returns : tie.Need-returns
-returns c = (c .before .before .put-outcome .ensures .of _ wholeHeader (c .before .before .before .before .before .before .before .before .before .before .before .before .translation-unit .ensures), left-as _ _ wholeHeader _ _ _ _ _ (c .before .before .before .before .before .before .before .before .before .before .before .before .translation-unit .ensures))
+returns c = (c .before .before .put-outcome .ensures .of _ wholeHeader (c .before .before .before .before .before .before .before .before .before .before .before .before .translation-unit .ensures .0), left-as _ _ wholeHeader _ _ _ _ _ (c .before .before .before .before .before .before .before .before .before .before .before .before .translation-unit .ensures .0))
 
 pub report-unit-spec : {M : Type 1} → statement M
 report-unit-spec =

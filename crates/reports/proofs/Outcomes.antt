@@ -50,15 +50,19 @@ module _ (number : ℕ) (text : Bytes) (w d : List ℕ) (v : List ℤ) where
   module _ {b b′ : Bytes} {n n′ : ℕ} where
     pub accepted-printed : (c : Counts) (r : Outcome) (m : Model·meant) → r ≡ Accepted c → m ≡ orLp64 (modelOf number) → Lists text m c w d v b n b′ n′ → Prints number text r w d v b n b′ n′
     unfolding printedOutcome table-left
-    accepted-printed c r m q e f = record { of = λ l entry z.
-        let g = accepts l number entry text w d v c (rw (sym q) z) in
-        rw (g .says, sym e) (f .of (table-left c l entry g)) }
+    accepted-printed c r m q e f = record {
+      of = λ l entry z.
+          let g = accepts l number entry text w d v c (rw (sym q) z) in
+          rw (g .says, sym e) (f .of (table-left c l entry g));
+    }
 
     pub rejected-printed : (k at line column : ℕ) (r : Outcome) → r ≡ Rejected k at line column → Wrote (refusedLine k at line column) b n b′ n′ → Prints number text r w d v b n b′ n′
     unfolding printedOutcome
-    rejected-printed k at line column r q f = record { of = λ l entry z.
-        let g = rejects l number entry text w d v k at line column (rw (sym q) z) in
-        rw (g .says) f }
+    rejected-printed k at line column r q f = record {
+      of = λ l entry z.
+          let g = rejects l number entry text w d v k at line column (rw (sym q) z) in
+          rw (g .says) f;
+    }
 
 -- ---- what a call leaves
 

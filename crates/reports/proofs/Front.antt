@@ -113,6 +113,8 @@ module _ {c : Counts} {w d : List ℕ} {v : List ℤ} (x : Table c w d v) where
 -- what is listed of the copy
 pub listed : {text : Bytes} {m : Model} {c : Counts} {w d : List ℕ} {v : List ℤ} {b b′ : Bytes} {n n′ : ℕ} (k : Cursor) (y : List ℕ) → k ≡ cursorOf c → y ≡ take namesAt w ++ drop {A = ℕ} namesAt (replicate wordsLength 0)
     → WroteAs (λ (t : Table·meant). Encodes t k y (take widesLength d) (take signedsLength v)) (λ (t : Table·meant). listing text m t) b n b′ n′ → Lists text m c w d v b n b′ n′
-listed {c = c} {w} {d} {v} k y p q f = record { of = λ x. f .of (x .all .table)
-    (subst (λ (z : Cursor). Encodes (x .all .table) z y (take widesLength d) (take signedsLength v)) (sym p)
-    (subst (λ (z : List ℕ). Encodes (x .all .table) (cursorOf c) z (take widesLength d) (take signedsLength v)) (sym q) (holds x))) }
+listed {c = c} {w} {d} {v} k y p q f = record {
+  of = λ x. f .of (x .all .table)
+      (subst (λ (z : Cursor). Encodes (x .all .table) z y (take widesLength d) (take signedsLength v)) (sym p)
+      (subst (λ (z : List ℕ). Encodes (x .all .table) (cursorOf c) z (take widesLength d) (take signedsLength v)) (sym q) (holds x)));
+}

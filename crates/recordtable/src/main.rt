@@ -24,7 +24,14 @@ fn main() {
     let mut signeds = [0i64; SIGNEDS];
     let mut out = listing_buffer();
     let n = io::read_full(STDIN_FILENO, &mut text);
-    let size = report_unit(&text[..n], LP64, &mut words, &mut wides, &mut signeds, &mut out);
+    let size = report_unit(
+        &text[..n],
+        LP64,
+        &mut words,
+        &mut wides,
+        &mut signeds,
+        &mut out,
+    );
     if size <= LISTING {
         io::write_all(STDOUT_FILENO, &out[..size]);
         return;

@@ -23,7 +23,7 @@ ghost use Rattle.printing.specs.Written.{Wrote};
 ghost use Rattle.words.specs.Meaning.{model};
 ghost use Rattle.reports.specs.Printed.{namesAt, cursorOf, Table, Lists, Answered, Prints};
 
-// No listing is longer.
+// More than any listing has: that of an accepted text is at most `maxListing` bytes long (crate `lengths`).
 pub const LISTING: usize = 1048576;
 
 // The lengths of the slices that hold a table.
@@ -91,7 +91,16 @@ fn put_table(
 {
     let mut table = [0u32; WORDS];
     copy_table(w, &mut table);
-    put_listing(out, 0, text, m, &table, &d[..WIDES], &v[..SIGNEDS], cursor_of(counts))
+    put_listing(
+        out,
+        0,
+        text,
+        m,
+        &table,
+        &d[..WIDES],
+        &v[..SIGNEDS],
+        cursor_of(counts),
+    )
 }
 
 fn put_outcome(

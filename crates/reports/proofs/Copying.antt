@@ -16,10 +16,12 @@ module _ {E : Type 0} {d s x : List E} {i : ℕ} (e : Copied d s x i) where
   copied-length p q = rw (e .is) (omega (arith, length-append (take i s) (drop i d), length-take-le i s q, length-drop i d))
 
   pub copied-more : (z : E) → i < length d → i < length s → Copied d s (set x i (getD s i z)) (i + 1)
-  copied-more z p q = record { is = rw (e .is, add-one i)
-      (ap (λ (r : List E). set (take i s ++ r) i (getD s i z)) (drop-cons d i z p)
-      ∙ (set-at (take i s) (getD d i z) (drop (suc i) d) (getD s i z) i (length-take-le i s (omega arith))
-      ∙ (sym (append-snoc (take i s) (getD s i z) (drop (suc i) d)) ∙ ap (λ (r : List E). r ++ drop (suc i) d) (sym (take-suc s i z q))))) }
+  copied-more z p q = record {
+    is = rw (e .is, add-one i)
+        (ap (λ (r : List E). set (take i s ++ r) i (getD s i z)) (drop-cons d i z p)
+        ∙ (set-at (take i s) (getD d i z) (drop (suc i) d) (getD s i z) i (length-take-le i s (omega arith))
+        ∙ (sym (append-snoc (take i s) (getD s i z) (drop (suc i) d)) ∙ ap (λ (r : List E). r ++ drop (suc i) d) (sym (take-suc s i z q)))));
+  }
 
   pub copied-all : (n : ℕ) → i ≤ n → n ≤ i → x ≡ take n s ++ drop n d
   copied-all n p q = let j : i ≡ n = omega arith in e .is ∙ ap (λ (k : ℕ). take k s ++ drop k d) j
