@@ -2,6 +2,10 @@
 use entry::Outcome;
 use entry::declaration;
 use entry::translation_unit;
+use reports::report_declaration;
+use reports::report_unit;
+ghost use Rattle.definition.specs.Listing.{printedOutcome};
+ghost use Rattle.printing.specs.Written.{Wrote};
 ghost use mathlib.Core.Path.{_≡_};
 ghost use mathlib.Core.List.{[], _∷_};
 ghost use lib.ListN.{set};
@@ -91,4 +95,36 @@ pub extern "C" fn recordtable_declaration(
 {
     let outcome = declaration(text, model, words, wides, signeds);
     tell(outcome, answer)
+}
+
+// The listing of a whole header, or the line of its refusal, as far as it fits; answers the length of it.
+#[no_mangle]
+pub extern "C" fn recordtable_unit_report(
+    text: &[u8],
+    model: u32,
+    words: &mut [u32],
+    wides: &mut [u64],
+    signeds: &mut [i64],
+    out: &mut [u8],
+) -> usize
+    ensures { λ r. ⌜ Wrote (printedOutcome model (now (text .entry)) (outcomeIn (lent (now (words .entry)) (now (wides .entry)) (now (signeds .entry))) model wholeHeader (now (text .entry)))) (now (out .entry)) 0 (now (out .exit)) r ⌝ }
+    ensures { λ _. ⌜ lent (now (words .exit)) (now (wides .exit)) (now (signeds .exit)) ≡ leftIn (lent (now (words .entry)) (now (wides .entry)) (now (signeds .entry))) (outcomeIn (lent (now (words .entry)) (now (wides .entry)) (now (signeds .entry))) model wholeHeader (now (text .entry))) ⌝ }
+{
+    report_unit(text, model, words, wides, signeds, out)
+}
+
+// The same of one declaration.
+#[no_mangle]
+pub extern "C" fn recordtable_declaration_report(
+    text: &[u8],
+    model: u32,
+    words: &mut [u32],
+    wides: &mut [u64],
+    signeds: &mut [i64],
+    out: &mut [u8],
+) -> usize
+    ensures { λ r. ⌜ Wrote (printedOutcome model (now (text .entry)) (outcomeIn (lent (now (words .entry)) (now (wides .entry)) (now (signeds .entry))) model singleDeclaration (now (text .entry)))) (now (out .entry)) 0 (now (out .exit)) r ⌝ }
+    ensures { λ _. ⌜ lent (now (words .exit)) (now (wides .exit)) (now (signeds .exit)) ≡ leftIn (lent (now (words .entry)) (now (wides .entry)) (now (signeds .entry))) (outcomeIn (lent (now (words .entry)) (now (wides .entry)) (now (signeds .entry))) model singleDeclaration (now (text .entry))) ⌝ }
+{
+    report_declaration(text, model, words, wides, signeds, out)
 }
