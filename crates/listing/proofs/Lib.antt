@@ -1,2 +1,1 @@
 pub mod Under
-pub mod Whole

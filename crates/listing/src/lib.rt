@@ -6,21 +6,18 @@ ghost use Rattle.definition.specs.Listing.{subLines, typeLines, declLine, listi
 ghost use Rattle.table.specs.Held.{Encodes, Room};
 ghost use Rattle.words.specs.Meaning.{model};
 ghost use Rattle.lines.specs.Lines.{WroteAs};
-ghost use Rattle.listing.specs.Listed.{HoldMembers, HoldValues, HoldParameters, HoldDeclarations, memberLines, valueLines, paramLines, Lists, IsRefusal, ValuesFit};
+ghost use Rattle.listing.specs.Listed.{HoldMembers, HoldValues, HoldParameters, HoldDeclarations, memberLines, valueLines, paramLines};
 use lines::decl_line;
 use lines::member_line;
 use lines::param_line;
 use lines::type_line;
 use lines::value_line;
-use printing::put_refused;
 use table::Cursor;
-use table::MAX_VALUES;
 use table::member_row;
 use table::parameter_row;
 use table::row_count;
 use table::row_first;
 use table::row_kind;
-use table::value_at;
 use table::value_row;
 use words::model::Model;
 use words::row_kinds::ENUM_KIND;
@@ -197,47 +194,4 @@ pub fn put_listing(
 {
     let at = type_lines(out, n, text, m, w, d, v, c);
     decl_lines(out, at, text, w, c.declarations)
-}
-
-// ---- for a caller
-
-// That a value of the slice has 64 bits is known where it is read, so each is read once: the bound on the listing needs it of all.
-fn values_fit(v: &[i64])
-    ensures { λ _. ⌜ ValuesFit (now (v .entry)) ⌝ }
-{
-    let mut i = 0;
-    while i < MAX_VALUES {
-        let _ = value_at(v, i);
-        i = i + 1;
-    }
-}
-
-// The listing of the table that the slices hold, from the buffer's begin on. Answers how many bytes it has, whether they fit or not.
-pub fn write_listing(
-    out: &mut [u8],
-    text: &[u8],
-    m: Model,
-    w: &[u32],
-    d: &[u64],
-    v: &[i64],
-    c: Cursor,
-) -> usize
-    requires { ⌜ Room c ⌝ }
-    ensures { λ r. ⌜ Lists (now (text .entry)) (model m) c (now (w .entry)) (now (d .entry)) (now (v .entry)) (now (out .entry)) (now (out .exit)) r ⌝ }
-{
-    values_fit(v);
-    put_listing(out, 0, text, m, w, d, v, c)
-}
-
-// The line of a refusal.
-pub fn write_refused(
-    out: &mut [u8],
-    number: u32,
-    offset: usize,
-    line: usize,
-    column: usize,
-) -> usize
-    ensures { λ r. ⌜ IsRefusal number offset line column (now (out .entry)) (now (out .exit)) r ⌝ }
-{
-    put_refused(out, 0, number, offset, line, column)
 }

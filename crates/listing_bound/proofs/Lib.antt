@@ -1,4 +1,0 @@
-pub mod Widths
-pub mod Counted
-pub mod Most
-pub mod Slices
