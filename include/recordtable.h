@@ -10,7 +10,7 @@
  * All else is answered: any bytes as text, any model, any count. Nothing is kept between calls, so calls on different slices may run at once.
  *
  * Slices that are longer than the lengths below are fine; shorter ones are refusal 1. What stood in `words`, `wides` and `signeds` does not
- * matter: after a call each of their elements is a number of the table, or 0, and after a refusal all are 0.
+ * matter, but for the two functions named .._in_zeros: after a call each of their elements is a number of the table, or 0, and after a refusal all are 0.
  */
 #ifndef RECORDTABLE_H
 #define RECORDTABLE_H
@@ -116,6 +116,17 @@ uint32_t recordtable_unit(const uint8_t *text, size_t text_length, uint32_t mode
 uint32_t recordtable_declaration(const uint8_t *text, size_t text_length, uint32_t model,
                                  uint32_t *words, size_t words_length, uint64_t *wides, size_t wides_length,
                                  int64_t *signeds, size_t signeds_length, uint64_t *answer, size_t answer_length);
+
+/* The same two for slices that hold zeros, as calloc gives them and as a refusal leaves them: they are not cleared first, which for a short text
+ * takes longer than reading it. Besides what is said above, a caller must see to it that every element of `words`, `wides` and `signeds` is 0.
+ * After a table was read it is enough to clear its entries: of each kind, from FROM on, so many times EACH as the answer counts. */
+uint32_t recordtable_unit_in_zeros(const uint8_t *text, size_t text_length, uint32_t model,
+                                   uint32_t *words, size_t words_length, uint64_t *wides, size_t wides_length,
+                                   int64_t *signeds, size_t signeds_length, uint64_t *answer, size_t answer_length);
+
+uint32_t recordtable_declaration_in_zeros(const uint8_t *text, size_t text_length, uint32_t model,
+                                          uint32_t *words, size_t words_length, uint64_t *wides, size_t wides_length,
+                                          int64_t *signeds, size_t signeds_length, uint64_t *answer, size_t answer_length);
 
 /* Reads a whole header as recordtable_unit does, and writes its listing, or the line of its refusal, into `out`. Returns the length of it,
  * which may be more than out_length: then out holds as much of its beginning as fits. No 0 byte is written after it. */

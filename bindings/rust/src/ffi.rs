@@ -2,7 +2,8 @@
 //!
 //! The proved functions take any bytes, any model's number and slices of any
 //! length. What they ask is that pointers are not null, are good for the lengths
-//! given and do not overlap, which Rust's references see to.
+//! given and do not overlap, which Rust's references see to; those that read into
+//! zeros ask for zeros too, which `slices.rs` sees to.
 
 /// Lengths that the limits ask for.
 pub const WORDS: usize = 78_848;
@@ -25,6 +26,12 @@ extern "C" {
     fn recordtable_declaration(text: *const u8, text_length: usize, model: u32,
         words: *mut u32, words_length: usize, wides: *mut u64, wides_length: usize,
         signeds: *mut i64, signeds_length: usize, answer: *mut u64, answer_length: usize) -> u32;
+    fn recordtable_unit_in_zeros(text: *const u8, text_length: usize, model: u32,
+        words: *mut u32, words_length: usize, wides: *mut u64, wides_length: usize,
+        signeds: *mut i64, signeds_length: usize, answer: *mut u64, answer_length: usize) -> u32;
+    fn recordtable_declaration_in_zeros(text: *const u8, text_length: usize, model: u32,
+        words: *mut u32, words_length: usize, wides: *mut u64, wides_length: usize,
+        signeds: *mut i64, signeds_length: usize, answer: *mut u64, answer_length: usize) -> u32;
     fn recordtable_unit_report(text: *const u8, text_length: usize, model: u32,
         words: *mut u32, words_length: usize, wides: *mut u64, wides_length: usize,
         signeds: *mut i64, signeds_length: usize, out: *mut u8, out_length: usize) -> usize;
@@ -40,17 +47,49 @@ pub struct Lent<'a> {
     pub signeds: &'a mut [i64],
 }
 
+/// A function of the archive that reads a text.
+#[rustfmt::skip]
+type Read = unsafe extern "C" fn(*const u8, usize, u32, *mut u32, usize, *mut u64, usize, *mut i64, usize, *mut u64, usize) -> u32;
+
 /// Reads a text. 0 is accepted, with six counts; else it is the refusal's number, with offset, line and column.
 pub fn read(entry: Entry, text: &[u8], model: u32, lent: Lent<'_>, answer: &mut [u64]) -> u32 {
-    let call = match entry {
+    let function = match entry {
         Entry::Unit => recordtable_unit,
         Entry::Declaration => recordtable_declaration,
     };
+    // SAFETY: these ask for nothing of what stands in the slices.
+    unsafe { call(function, text, model, lent, answer) }
+}
+
+/// The same in slices of zeros, which are not cleared first.
+///
+/// # Safety
+///
+/// Every element of the three slices is 0.
+pub unsafe fn read_in_zeros(
+    entry: Entry,
+    text: &[u8],
+    model: u32,
+    lent: Lent<'_>,
+    answer: &mut [u64],
+) -> u32 {
+    let function = match entry {
+        Entry::Unit => recordtable_unit_in_zeros,
+        Entry::Declaration => recordtable_declaration_in_zeros,
+    };
+    // SAFETY: the caller promises zeros.
+    unsafe { call(function, text, model, lent, answer) }
+}
+
+/// # Safety
+///
+/// What stands in the slices is what the function asks for.
+unsafe fn call(function: Read, text: &[u8], model: u32, lent: Lent<'_>, answer: &mut [u64]) -> u32 {
     let Lent { words, wides, signeds } = lent;
     // SAFETY: each pointer and length are those of a slice that is borrowed for this call, mutably but for the text, so none
     // is null and none overlap; the function is proved to write within them and to end.
     unsafe {
-        call(
+        function(
             text.as_ptr(),
             text.len(),
             model,
@@ -141,6 +180,23 @@ mod tests {
             number
         }
 
+        /// In zeros between the guards.
+        fn read_in_zeros(&mut self, entry: Entry, text: &[u8], model: u32) -> u32 {
+            let lent = Lent {
+                words: inner(&mut self.words),
+                wides: inner(&mut self.wides),
+                signeds: inner(&mut self.signeds),
+            };
+            lent.words.fill(0);
+            lent.wides.fill(0);
+            lent.signeds.fill(0);
+            // SAFETY: they were filled with zeros.
+            let number =
+                unsafe { read_in_zeros(entry, text, model, lent, inner(&mut self.answer)) };
+            self.unhurt();
+            number
+        }
+
         fn report(&mut self, entry: Entry, text: &[u8], model: u32) -> usize {
             let lent = Lent {
                 words: inner(&mut self.words),
@@ -183,6 +239,31 @@ mod tests {
                 assert_eq!(inner(&mut noisy.answer), [0, 1, 1, 0, 0, 0]);
                 assert!(noisy.all_zero());
                 assert_eq!(noisy.report(entry, TEXT, 0), "refused 1 0 1 1\n".len());
+            }
+        }
+    }
+
+    #[test]
+    fn zeros_or_noise_before_make_no_difference() {
+        let texts: [&[u8]; 6] =
+            [TEXT, b"", b"int @;", b"struct T{int a;foo b;};", b"int a,b;", b"\xff"];
+        for (words, wides, signeds) in
+            [(WORDS, WIDES, SIGNEDS), (WORDS + 7, WIDES + 7, SIGNEDS + 7), (0, 1, 2)]
+        {
+            for entry in [Entry::Unit, Entry::Declaration] {
+                for text in texts {
+                    for model in 0..4 {
+                        let mut noisy = Noisy::new(words, wides, signeds, ANSWER);
+                        let mut zeros = Noisy::new(words, wides, signeds, ANSWER);
+                        let number = noisy.read(entry, text, model);
+                        assert_eq!(zeros.read_in_zeros(entry, text, model), number);
+                        assert_eq!(inner(&mut zeros.answer), inner(&mut noisy.answer));
+                        assert_eq!(inner(&mut zeros.words), inner(&mut noisy.words));
+                        assert_eq!(inner(&mut zeros.wides), inner(&mut noisy.wides));
+                        assert_eq!(inner(&mut zeros.signeds), inner(&mut noisy.signeds));
+                        assert!(number == 0 || zeros.all_zero());
+                    }
+                }
             }
         }
     }

@@ -24,6 +24,8 @@
 #[allow(unsafe_code)]
 mod ffi;
 mod refusal;
+#[allow(unsafe_code)]
+mod slices;
 mod table;
 
 pub use refusal::Refusal;
@@ -31,8 +33,8 @@ pub use table::{
     Bits, Declaration, Member, Name, OwnedTable, Parameter, Row, Storage, Table, Type, Value,
 };
 
-use ffi::{Entry, Lent, ANSWER, SIGNEDS, WIDES, WORDS};
-use table::Counts;
+use ffi::Entry;
+use slices::Slices;
 
 /// A data model: the sizes of C's types.
 #[derive(Clone, Copy, Debug, PartialEq, Eq, Hash)]
@@ -62,16 +64,14 @@ impl Model {
 const FIRST_LISTING: usize = 16 * 1_024;
 
 /// Reads texts. It owns the memory that tables stand in, 422 KB, and lends it
-/// anew for each text.
+/// anew for each text; a reader that is kept saves making and clearing it.
 pub struct Reader {
-    words: Box<[u32; WORDS]>,
-    wides: Box<[u64; WIDES]>,
-    signeds: Box<[i64; SIGNEDS]>,
+    slices: Slices,
 }
 
 impl Reader {
     pub fn new() -> Reader {
-        Reader { words: zeros(), wides: zeros(), signeds: zeros() }
+        Reader { slices: Slices::new() }
     }
 
     /// Reads a whole header.
@@ -119,31 +119,23 @@ impl Reader {
         text: &'a [u8],
         model: Model,
     ) -> Result<Table<'a>, Refusal> {
-        let mut answer = [0; ANSWER];
-        let number = ffi::read(entry, text, model.number(), self.lent(), &mut answer);
-        let [rows, members, values, parameters, declarations, names] = answer.map(|n| n as usize);
-        if number != 0 {
-            let [offset, line, column] = [rows, members, values];
-            return Err(Refusal { number, offset, line, column });
-        }
-        let counts = Counts { rows, members, values, parameters, declarations, names };
-        Ok(Table::new(text, model, entry, &self.words, &self.wides, &self.signeds, counts))
+        let counts = self
+            .slices
+            .read(entry, text, model.number())
+            .map_err(|(number, [offset, line, column])| Refusal { number, offset, line, column })?;
+        let Slices { words, wides, signeds, .. } = &self.slices;
+        Ok(Table::new(text, model, entry, words, wides, signeds, counts))
     }
 
     fn report(&mut self, entry: Entry, text: &[u8], model: Model) -> String {
         let mut out = vec![0; FIRST_LISTING];
-        let mut length = ffi::report(entry, text, model.number(), self.lent(), &mut out);
+        let mut length = self.slices.report(entry, text, model.number(), &mut out);
         if length > out.len() {
             out.resize(length, 0);
-            length = ffi::report(entry, text, model.number(), self.lent(), &mut out);
+            length = self.slices.report(entry, text, model.number(), &mut out);
         }
         out.truncate(length);
         String::from_utf8(out).expect("a listing is ASCII")
-    }
-
-    fn lent(&mut self) -> Lent<'_> {
-        let Reader { words, wides, signeds } = self;
-        Lent { words: &mut words[..], wides: &mut wides[..], signeds: &mut signeds[..] }
     }
 }
 
@@ -156,13 +148,5 @@ impl Default for Reader {
 impl std::fmt::Debug for Reader {
     fn fmt(&self, f: &mut std::fmt::Formatter<'_>) -> std::fmt::Result {
         f.debug_struct("Reader").finish_non_exhaustive()
-    }
-}
-
-/// An array of zeros that was never on the stack.
-fn zeros<T: Clone + Default, const N: usize>() -> Box<[T; N]> {
-    match vec![T::default(); N].into_boxed_slice().try_into() {
-        Ok(array) => array,
-        Err(_) => unreachable!("a vector of N elements is an array of N"),
     }
 }

@@ -2,17 +2,17 @@ use crate::ffi::{Entry, SIGNEDS, WIDES, WORDS};
 use crate::{Model, Reader};
 
 // Where each kind of entry begins in the 32-bit slice, and how many numbers it has (include/recordtable.h).
-const ROWS: Region = Region { from: 0, each: 6 };
-const MEMBERS: Region = Region { from: 6_144, each: 4 };
-const VALUES: Region = Region { from: 22_528, each: 2 };
-const PARAMETERS: Region = Region { from: 30_720, each: 3 };
-const DECLARATIONS: Region = Region { from: 43_008, each: 3 };
-const NAMES: Region = Region { from: 46_080, each: 2 };
+pub(crate) const ROWS: Region = Region { from: 0, each: 6 };
+pub(crate) const MEMBERS: Region = Region { from: 6_144, each: 4 };
+pub(crate) const VALUES: Region = Region { from: 22_528, each: 2 };
+pub(crate) const PARAMETERS: Region = Region { from: 30_720, each: 3 };
+pub(crate) const DECLARATIONS: Region = Region { from: 43_008, each: 3 };
+pub(crate) const NAMES: Region = Region { from: 46_080, each: 2 };
 // .. and in the 64-bit one.
-const ROW_WIDES: Region = Region { from: 0, each: 1 };
-const MEMBER_WIDES: Region = Region { from: 1_024, each: 2 };
+pub(crate) const ROW_WIDES: Region = Region { from: 0, each: 1 };
+pub(crate) const MEMBER_WIDES: Region = Region { from: 1_024, each: 2 };
 
-struct Region {
+pub(crate) struct Region {
     from: usize,
     each: usize,
 }
@@ -20,6 +20,10 @@ struct Region {
 impl Region {
     fn of<'a, T>(&self, slice: &'a [T], count: usize) -> &'a [T] {
         &slice[self.from..self.from + self.each * count]
+    }
+
+    pub(crate) fn of_mut<'a, T>(&self, slice: &'a mut [T], count: usize) -> &'a mut [T] {
+        &mut slice[self.from..self.from + self.each * count]
     }
 }
 
@@ -173,6 +177,7 @@ struct Parts<'a> {
 }
 
 /// How many there are of each, in the order of the answer.
+#[derive(Clone, Copy)]
 pub(crate) struct Counts {
     pub rows: usize,
     pub members: usize,

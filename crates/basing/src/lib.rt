@@ -1,4 +1,6 @@
 // The types that words and names make: rows of base types.
+use interning::add_row;
+use interning::qualify;
 use naming::name_at;
 use rows::Found;
 use rows::typedef_row;
@@ -6,8 +8,6 @@ use table::Cursor;
 use table::Numbers;
 use table::Step;
 use table::kind_at;
-use types::add_row;
-use types::qualify;
 use words::classes::is_name;
 use words::model::Model;
 use words::specifiers::Base;

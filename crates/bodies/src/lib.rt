@@ -1,4 +1,5 @@
 // Bodies of structs, unions and enums: a tag gets its body, and a body without a tag is an equal row or the next one.
+use interning::equal_row;
 use owning::NO_ROW;
 use owning::own_members;
 use owning::own_values;
@@ -12,7 +13,6 @@ use table::Numbers;
 use table::Step;
 use table::push_row;
 use table::set_row;
-use types::equal_row;
 ghost use mathlib.Core.Path.{_≡_};
 ghost use mathlib.Core.Option.{some};
 ghost use Prim.Native.Nat.{ℕ, _≤_};

@@ -1,3 +1,4 @@
 pub mod Rounds
 pub mod Opens
+pub mod Plain
 pub mod Waiting

@@ -1,9 +1,12 @@
 -- What is read before the name of a declarator: stars, and a parenthesis.
 use mathlib.Core.Path.{_≡_}
+use mathlib.Core.Bool.{Bool, _&&_, not}
 use mathlib.Core.List.{List, [], _++_}
 use Prim.Native.Nat.{ℕ, suc, _+_}
+use lib.Dec.{eqb}
 use lib.IntN.{ℤ}
-use lib.ListN.{length}
+use lib.ListN.{length, getD}
+use Rattle.definition.specs.Kind.{isName, end, openBracket, openParen}
 use Rattle.definition.specs.Token.{Tokens, left}
 use Rattle.definition.specs.Row.{Qualifiers}
 use Rattle.definition.specs.Table.{Table, Reads}
@@ -43,3 +46,7 @@ pub record Stars (ks : List ℕ) (c : Cursor) (s : Steps) (r : Declared) : Type 
 -- What is told of w is what f says of whatever table w holds, with as many rows as the cursor counts.
 pub record Tells {A : Type 0} (f : Table → A) (c : Cursor) (w : List ℕ) (r : A) : Type 0 where
   pub of : (t : Table) → InWords t w → Counts t c → r ≡ f t
+
+-- a name at i, and neither a bound nor a parameter list after it
+unfoldable pub isPlain : List ℕ → ℕ → Bool
+isPlain ks i = isName (getD ks i end) && (not (eqb (getD ks (i + 1) end) openBracket) && not (eqb (getD ks (i + 1) end) openParen))

@@ -11,6 +11,7 @@ use table::LIMIT_PASSED;
 use table::Step;
 use table::kind_at;
 use words::classes::is_name;
+use words::kinds::OPEN_BRACKET;
 use words::kinds::OPEN_PAREN;
 use words::kinds::STAR;
 use words::model::Model;
@@ -24,7 +25,7 @@ ghost use Rattle.table.specs.Held.{state, Room};
 ghost use Rattle.words.specs.Meaning.{model};
 ghost use Rattle.naming.specs.Names.{NamesFit};
 ghost use Rattle.skipping.specs.Passing.{tokens};
-ghost use Rattle.declarator_heads.specs.Heads.{Stars, Tells};
+ghost use Rattle.declarator_heads.specs.Heads.{Stars, Tells, isPlain};
 
 // A declarator: the name that it declares and where to read on, or a refusal; and its steps.
 pub struct Declared {
@@ -91,4 +92,15 @@ pub fn opens_declarator(kinds: &[u32], numbers: &[u64], w: &[u32], c: Cursor, m:
         Known::Row(_) => false,
         Known::Nothing => true,
     }
+}
+
+// A name without a bound or a parameter list after it: a declarator that takes no steps.
+pub fn is_plain(kinds: &[u32], at: usize) -> bool
+    ensures { λ r. ⌜ r ≡ isPlain (now (kinds .entry)) at ⌝ }
+{
+    if !is_name(kind_at(kinds, at)) {
+        return false;
+    }
+    let next = kind_at(kinds, at + 1);
+    (next != OPEN_BRACKET) & (next != OPEN_PAREN)
 }

@@ -1,4 +1,7 @@
 // What the steps of a declarator make of a type: stars, bounds and parameter lists; and the types of parameters.
+use interning::add_row;
+use interning::equal_row;
+use interning::qualify;
 use owning::NO_ROW;
 use owning::own_parameters;
 use rows::ARRAY;
@@ -17,9 +20,6 @@ use table::Numbers;
 use table::Step;
 use table::push_row;
 use table::row_target;
-use types::add_row;
-use types::equal_row;
-use types::qualify;
 use words::qualifiers::Qualifiers;
 ghost use mathlib.Core.Path.{_≡_};
 ghost use mathlib.Core.List.{[], _∷_};

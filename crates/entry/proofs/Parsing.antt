@@ -127,7 +127,7 @@ module _ (entry : meant.Entry) (end : ℕ) (m : Model) {ks ps ns w d : List ℕ}
   abbrev named : Table → Answer meant.Accepted
   named t = got (record { table = t; names = nameTable (lexed ks ps ns end) t })
 
-  pub read-done : {w′ : List ℕ} (e : Cursor) (n : ℕ) (y : Counts) → r ≡ To e → Writes ks ps ns e w n w′ → y ≡ countsFrom e n → Read (readTokens entry (lexed ks ps ns end) m) (Done y) w′ d v
+  pub read-done : {w₀ d₀ w′ : List ℕ} {v₀ : List ℤ} (e : Cursor) (n : ℕ) (y : Counts) → r ≡ To e → Writes ks ps ns e w n w′ → y ≡ countsFrom e n → Read (readTokens entry (lexed ks ps ns end) m) w₀ d₀ v₀ (Done y) w′ d v
   unfolding readTokens _>>=_
   read-done e n y q f h =
       let k = kept p q in
@@ -143,6 +143,6 @@ module _ (entry : meant.Entry) (end : ℕ) (m : Model) {ks ps ns w d : List ℕ}
         few = few-names c end t;
       })
 
-  pub read-refused : (n i : ℕ) → r ≡ Move·Refused n i → {w″ d″ : List ℕ} {v″ : List ℤ} → Read (readTokens entry (lexed ks ps ns end) m) (Refused n i) w″ d″ v″
+  pub read-refused : (n i : ℕ) → r ≡ Move·Refused n i → {w₀ d₀ w″ d″ : List ℕ} {v₀ v″ : List ℤ} → Read (readTokens entry (lexed ks ps ns end) m) w₀ d₀ v₀ (Refused n i) w″ d″ v″
   unfolding readTokens _>>=_
   read-refused n i q = answers.stop n i (ap (λ (b : Answer Table). b >>= named) (turned p q)) refl

@@ -7,7 +7,7 @@ use Prim.Native.Nat.{ℕ, _-_, _≤_, _<_}
 use native.Mathlib.Omega.{arith}
 use lib.Dec.{leb}
 use lib.IntN.{ℤ}
-use lib.ListN.{length, take, drop, replicate, length-append, length-replicate}
+use lib.ListN.{length, take, drop, replicate, length-append, length-replicate, take-append-drop}
 use lib.Seq.{take-at}
 use borrow.Author.Tests.{le-leb, lt-leb}
 use Rattle.definition.specs.Answer.{Answer, got, refused, _>>=_}
@@ -25,19 +25,17 @@ use Rattle.laws.proofs.Columns.{tokenize-columns, tokenize-end}
 use Rattle.laws.proofs.Left.{Long}
 use Rattle.scan.specs.declared.Spot.{Spot}
 use Rattle.scan.specs.Where.{place}
-use Rattle.scan.proofs.Branch.{nay! }
 use Rattle.table.proofs.Branch.{yes, nay}
 use Rattle.tokens.specs.Columns as columns
-use Rattle.tokens.proofs.Entry as lexing
 use Rattle.tokens.specs.declared.Lexing.{Lexing}
 use Rattle.tokens.specs.declared.Lexing.the-variants.{Done as Lexing·Done, Refused as Lexing·Refused}
 use Rattle.clearing.specs.Slices.{lent}
 use Rattle.entry.proofs.Front.{fresh-front, front-filled}
-use Rattle.entry.specs.Answers.{lexed, firstCursor, countsOf, Read, readTokens, Cleared, Enough, Left, Leaves, rejectedAt, out, shown, readLong, Tells, answered}
+use Rattle.entry.specs.Answers.{lexed, firstCursor, countsOf, Read, readTokens, Cleared, Enough, Left, Leaves, rejectedAt, out, shown, readLong, Tells, answered, Answers}
 use Rattle.entry.specs.Answers as answers
 use Rattle.entry.specs.declared.Counts.{Counts}
 use Rattle.entry.specs.declared.Reading.{Reading}
-use Rattle.entry.specs.declared.Reading.the-variants.{Done, Refused}
+use Rattle.entry.specs.declared.Reading.the-variants.{Done, Untouched, Refused}
 use Rattle.entry.specs.declared.Outcome.{Outcome}
 use Rattle.entry.specs.declared.Outcome.the-variants.{Accepted, Rejected}
 
@@ -60,42 +58,41 @@ padded-there : (n c : ℕ) (xs ys : List ℕ) → ys ≡ columns.padded n xs →
 unfolding columns.padded
 padded-there n c xs ys e l = rw e (omega (arith, length-append xs (replicate (n - length xs) 0)))
 
-module _ (text : Bytes) (k p n : ℕ) (ks ps ns : List ℕ) (r : Lexing) (e : columns.out r ks ps ns ≡ columns.answered text k p n) (a : k ≡ 32768) (b : p ≡ 32768) (c : n ≡ 32768) where
-  plain : columns.out r ks ps ns ≡ columns.shown k p n (tokenize text)
-  unfolding columns.answered
-  plain = e ∙ nay! (columns.short k p n) _ _ (lexing.long k p n (omega arith) (omega arith) (omega arith))
+module _ (text : Bytes) {ks ps ns : List ℕ} {r : Lexing} where
+  pub lexes : columns.Lexes (tokenize text) r ks ps ns → {count : ℕ} → r ≡ Lexing·Done count → Lexes text ks ps ns count
+  lexes (columns.stop m at t e) q = let y : _≡_ {A = ℕ} 0 1 = cc in absurd (omega arith)
+  lexes (columns.done x t e i j o) {count} q =
+      let h = tokenize-columns text .of x t in
+      let l : length (x .places) ≡ count = cc in
+      let li : length (x .tokens .kinds) ≡ count = omega (arith, h .places) in
+      let lo : length (x .tokens .numbers) ≡ count = omega (arith, h .places, h .numbers) in
+      record {
+        tokens = x;
+        says = t;
+        same = rw (padded-front (length ks) count _ _ i li, padded-front (length ps) count _ _ j l, padded-front (length ns) count _ _ o lo, ← (tokenize-end text .of x t));
+        kinds = padded-there (length ks) count _ _ i li;
+        places = padded-there (length ps) count _ _ j l;
+        numbers = padded-there (length ns) count _ _ o lo;
+      }
 
-  pub lexes : (count : ℕ) → r ≡ Lexing·Done count → Lexes text ks ps ns count
-  unfolding columns.shown
-  lexes count q = go (tokenize text) refl
-    where
-      go : (x : Answer Lexed) → tokenize text ≡ x → Lexes text ks ps ns count
-      go (refused m at) t = let z = plain ∙ ap (columns.shown k p n) t in let y : _≡_ {A = ℕ} 0 1 = cc in absurd (omega arith)
-      go (got x) t =
-          let z = plain ∙ ap (columns.shown k p n) t in
-          let h = tokenize-columns text .of x t in
-          let l : length (x .places) ≡ count = cc in
-          let i : ks ≡ columns.padded k (x .tokens .kinds) = cc in
-          let j : ps ≡ columns.padded p (x .places) = cc in
-          let o : ns ≡ columns.padded n (x .tokens .numbers) = cc in
-          let li : length (x .tokens .kinds) ≡ count = omega (arith, h .places) in
-          let lo : length (x .tokens .numbers) ≡ count = omega (arith, h .places, h .numbers) in
-          record {
-            tokens = x;
-            says = t;
-            same = rw (padded-front k count _ _ i li, padded-front p count _ _ j l, padded-front n count _ _ o lo, ← (tokenize-end text .of x t));
-            kinds = padded-there k count _ _ i li;
-            places = padded-there p count _ _ j l;
-            numbers = padded-there n count _ _ o lo;
-          }
+  pub lexes-no : columns.Lexes (tokenize text) r ks ps ns → {m at : ℕ} → r ≡ Lexing·Refused m at → tokenize text ≡ refused m at
+  lexes-no (columns.stop m′ at′ t e) {m} {at} q = let y : m′ ≡ m = cc in let o : at′ ≡ at = cc in t ∙ rw (y, o)
+  lexes-no (columns.done x t e i j o) q = let y : _≡_ {A = ℕ} 0 1 = cc in absurd (omega arith)
 
-  pub lexes-no : (m at : ℕ) → r ≡ Lexing·Refused m at → tokenize text ≡ refused m at
-  unfolding columns.shown
-  lexes-no m at q = go (tokenize text) refl
-    where
-      go : (x : Answer Lexed) → tokenize text ≡ x → tokenize text ≡ refused m at
-      go (refused m′ at′) t = let z = plain ∙ ap (columns.shown k p n) t in let y : m′ ≡ m = cc in let o : at′ ≡ at = cc in t ∙ rw (y, o)
-      go (got x) t = let z = plain ∙ ap (columns.shown k p n) t in let y : _≡_ {A = ℕ} 0 1 = cc in absurd (omega arith)
+-- columns of zeros as long as a text may be
+module _ (n : ℕ) (text : Bytes) (room : length text ≤ 32768 → length text ≤ n) {ks ps ns : List ℕ} (a : ks ≡ replicate n 0) (b : ps ≡ replicate n 0) (c : ns ≡ replicate n 0) where
+  long-as : (l : List ℕ) → l ≡ replicate n 0 → length l ≡ n
+  long-as l e = ap (λ (x : List ℕ). length x) e ∙ length-replicate n 0
+
+  zero-as : (l : List ℕ) → l ≡ replicate n 0 → l ≡ replicate (length l) 0
+  zero-as l e = e ∙ ap (λ (i : ℕ). replicate i 0) (sym (long-as l e))
+
+  pub zero-columns : columns.RoomIf text ks ps ns × columns.Zero ks ps ns ks ps ns
+  zero-columns =
+      let x = long-as ks a in let y = long-as ps b in let z = long-as ns c in (
+        record { run = λ h. let k = room h in record { fits = h; kinds = omega arith; places = omega arith; numbers = omega arith } },
+        record { kinds = zero-as ks a; places = zero-as ps b; numbers = zero-as ns c },
+      )
 
 module _ {text : Bytes} {ks ps ns : List ℕ} {count : ℕ} (h : Lexes text ks ps ns count) where
   pub text-columns : Columns (take count ks) (take count ps) (take count ns)
@@ -105,14 +102,14 @@ module _ {text : Bytes} {ks ps ns : List ℕ} {count : ℕ} (h : Lexes text ks p
       let c : take count ns ≡ x .tokens .numbers = ap (λ (y : Lexed). y .tokens .numbers) e in
       rw (a, b, c) (tokenize-columns text .of x (h .says))
 
-  pub text-done : (entry : meant.Entry) (m : Model) {r : Reading} {w d : List ℕ} {v : List ℤ}
-      → Read (readTokens entry (lexed (take count ks) (take count ps) (take count ns) (length text)) m) r w d v → Read (meant.readWith m entry text) r w d v
+  pub text-done : (entry : meant.Entry) (m : Model) {r : Reading} {w d w′ d′ : List ℕ} {v v′ : List ℤ}
+      → Read (readTokens entry (lexed (take count ks) (take count ps) (take count ns) (length text)) m) w d v r w′ d′ v′ → Read (meant.readWith m entry text) w d v r w′ d′ v′
   unfolding meant.readWith readTokens _>>=_
   text-done entry m g = rw (h .says) (rw (h .same) at g)
 
-pub text-refused : (text : Bytes) (entry : meant.Entry) (m : Model) (n at : ℕ) {w d : List ℕ} {v : List ℤ} → tokenize text ≡ refused n at → Read (meant.readWith m entry text) (Refused n at) w d v
+pub text-refused : (text : Bytes) (entry : meant.Entry) (m : Model) (n at : ℕ) {w d : List ℕ} {v : List ℤ} → tokenize text ≡ refused n at → Read (meant.readWith m entry text) w d v (Untouched n at) w d v
 unfolding meant.readWith _>>=_
-text-refused text entry m n at e = answers.stop n at (rw e) refl
+text-refused text entry m n at e = answers.same n at (rw e) refl refl
 
 -- ---- slices of any length
 
@@ -141,8 +138,19 @@ module _ (l : Lent) (w d : List ℕ) (v : List ℤ) (e : lent w d v ≡ zeroed l
   unfolding zeroed
   zeroed-again w′ d′ v′ p q r = rw (p ∙ w-long, q ∙ d-long, r ∙ v-long)
 
-  front-left : {a : Answer meant.Accepted} {r : Reading} {ws ds : List ℕ} {vs : List ℤ} → Read a r ws ds vs → Left l a r (ws ++ drop wordsLength w) (ds ++ drop widesLength d) (vs ++ drop signedsLength v)
+  -- the front part as it was
+  front-same : (ws ds : List ℕ) (vs : List ℤ) → lent ws ds vs ≡ lent (take wordsLength w) (take widesLength d) (take signedsLength v)
+      → lent (ws ++ drop wordsLength w) (ds ++ drop widesLength d) (vs ++ drop signedsLength v) ≡ lent w d v
+  front-same ws ds vs q =
+      let a : ws ≡ take wordsLength w = ap (λ (x : Lent). x .words) q in
+      let b : ds ≡ take widesLength d = ap (λ (x : Lent). x .wides) q in
+      let c : vs ≡ take signedsLength v = ap (λ (x : Lent). x .signeds) q in
+      rw (a, b, c, take-append-drop wordsLength w, take-append-drop widesLength d, take-append-drop signedsLength v)
+
+  front-left : {a : Answer meant.Accepted} {r : Reading} {ws ds : List ℕ} {vs : List ℤ} → Read a (take wordsLength w) (take widesLength d) (take signedsLength v) r ws ds vs
+      → Left l a r (ws ++ drop wordsLength w) (ds ++ drop widesLength d) (vs ++ drop signedsLength v)
   front-left (answers.done x p q h) = answers.done x p q (rw (h .words, h .wides, h .signeds) (front-filled l w d v e x (h .limits) (h .few)))
+  front-left {a} {r} {ws} {ds} {vs} (answers.same n p q h s) = answers.same n p q h (front-same ws ds vs s ∙ e)
   front-left (answers.stop n p q h) = answers.stop n p q h
 
   and-no : (a b : Bool) → b ≡ false → (a && b) ≡ false
@@ -164,7 +172,7 @@ module _ (l : Lent) (w d : List ℕ) (v : List ℤ) (e : lent w d v ≡ zeroed l
 pub front-fresh : (w d : List ℕ) (v : List ℤ) → Cleared w d v → Enough w d v → Encodes newTable firstCursor (take wordsLength w) (take widesLength d) (take signedsLength v)
 front-fresh w d v c h = fresh-front (c .of) w d v (c .is) (long (c .of) w d v (c .is) h)
 
-pub front-leaves : (w d : List ℕ) (v : List ℤ) {a : Answer meant.Accepted} {r : Reading} {ws ds : List ℕ} {vs : List ℤ} → Read a r ws ds vs
+pub front-leaves : (w d : List ℕ) (v : List ℤ) {a : Answer meant.Accepted} {r : Reading} {ws ds : List ℕ} {vs : List ℤ} → Read a (take wordsLength w) (take widesLength d) (take signedsLength v) r ws ds vs
     → Leaves a w d v r (ws ++ drop wordsLength w) (ds ++ drop widesLength d) (vs ++ drop signedsLength v)
 front-leaves w d v g = record { run = λ l e. front-left l w d v e g }
 
@@ -206,7 +214,17 @@ module _ (m : Model) (entry : meant.Entry) (text : Bytes) (w d : List ℕ) (v : 
       where
         go : (l : Lent) → readLong l m entry text ≡ meant.readWith m entry text → Left l (meant.readWith m entry text) r w′ d′ v′ → out (Accepted c) (lent w′ d′ v′) ≡ shown l (meant.told text (readLong l m entry text))
         go l y (answers.done x p s e) = let z : c ≡ countsOf x = cc in rw (y, p, z, e)
+        go l y (answers.same n p s e q′) = let z : _≡_ {A = ℕ} 0 1 = cc in absurd (omega arith)
         go l y (answers.stop n p s e) = let z : _≡_ {A = ℕ} 0 1 = cc in absurd (omega arith)
+
+    -- nothing was written: the slices are zero still
+    pub tells-untouched : (n at : ℕ) (o : Outcome) → r ≡ Untouched n at → o ≡ rejectedAt text n at → Tells m entry text w d v o w′ d′ v′
+    tells-untouched n at o q g = record { run = λ l e. go l e (f .run l e) }
+      where
+        go : (l : Lent) → lent w d v ≡ zeroed l → Left l (meant.readWith m entry text) r w′ d′ v′ → out o (lent w′ d′ v′) ≡ shown l (meant.told text (readLong l m entry text))
+        go l e (answers.done x p s t) = let y : _≡_ {A = ℕ} 0 1 = cc in absurd (omega arith)
+        go l e (answers.same n′ p′ s t z) = let y : n′ ≡ n = cc in let u : p′ ≡ at = cc in refused-out l text n at o w′ d′ v′ (readLong l m entry text) (read-yes l e ∙ (s ∙ rw (y, u))) g z
+        go l e (answers.stop n′ p′ s t) = let y : _≡_ {A = ℕ} 0 1 = cc in absurd (omega arith)
 
     pub tells-refused : (n at : ℕ) (o : Outcome) (w″ d″ : List ℕ) (v″ : List ℤ) → r ≡ Refused n at → length w′ ≡ length w → length d′ ≡ length d → length v′ ≡ length v
         → lent w″ d″ v″ ≡ zeroed (lent w′ d′ v′) → o ≡ rejectedAt text n at → Tells m entry text w d v o w″ d″ v″
@@ -214,21 +232,33 @@ module _ (m : Model) (entry : meant.Entry) (text : Bytes) (w d : List ℕ) (v : 
       where
         says : (l : Lent) → Left l (meant.readWith m entry text) r w′ d′ v′ → meant.readWith m entry text ≡ refused n at
         says l (answers.done x p s e) = let y : _≡_ {A = ℕ} 0 1 = cc in absurd (omega arith)
+        says l (answers.same n′ p′ s e t) = let y : _≡_ {A = ℕ} 0 1 = cc in absurd (omega arith)
         says l (answers.stop n′ p′ s e) = let y : n′ ≡ n = cc in let u : p′ ≡ at = cc in s ∙ rw (y, u)
 
-module _ (l : Lent) (model : ℕ) (entry : meant.Entry) (text : Bytes) (r : Outcome) (w d : List ℕ) (v : List ℤ) where
-  -- by the model that the number has
-  unfoldable by-model : Option Model → Answer meant.Accepted
-  by-model o = elim o [ none ↦ refused 1 0 | some m ↦ elim (longEnough l) as (λ z. Answer meant.Accepted) [ true ↦ meant.readWith m entry text | false ↦ refused 1 0 ] ]
+module _ (model : ℕ) (entry : meant.Entry) (text : Bytes) (r : Outcome) (w d : List ℕ) (v : List ℤ) where
+  module _ (l : Lent) where
+    -- by the model that the number has
+    unfoldable by-model : Option Model → Answer meant.Accepted
+    by-model o = elim o [ none ↦ refused 1 0 | some m ↦ elim (longEnough l) as (λ z. Answer meant.Accepted) [ true ↦ meant.readWith m entry text | false ↦ refused 1 0 ] ]
 
-  read-by : (o : Option Model) → o ≡ modelOf model → meant.read model (longEnough l) entry text ≡ by-model o
-  unfolding meant.read by-model
-  read-by o e = ap (λ (x : Option Model). by-model x) (sym e)
+    read-by : (o : Option Model) → o ≡ modelOf model → meant.read model (longEnough l) entry text ≡ by-model o
+    unfolding meant.read by-model
+    read-by o e = ap (λ (x : Option Model). by-model x) (sym e)
 
-  pub answer-known : (m : Model) {w′ d′ : List ℕ} {v′ : List ℤ} → some m ≡ modelOf model → lent w d v ≡ zeroed l → Tells m entry text w d v r w′ d′ v′ → out r (lent w′ d′ v′) ≡ answered l model entry text
-  unfolding answered meant.outcome readLong by-model
-  answer-known m e z t = t .run l z ∙ ap (λ (a : Answer meant.Accepted). shown l (meant.told text a)) (sym (read-by (some m) e))
+    known : (m : Model) {w′ d′ : List ℕ} {v′ : List ℤ} → some m ≡ modelOf model → lent w d v ≡ zeroed l → Tells m entry text w d v r w′ d′ v′ → out r (lent w′ d′ v′) ≡ answered l model entry text
+    unfolding answered meant.outcome readLong by-model
+    known m e z t = t .run l z ∙ ap (λ (a : Answer meant.Accepted). shown l (meant.told text a)) (sym (read-by (some m) e))
 
-  pub answer-unknown : none ≡ modelOf model → lent w d v ≡ zeroed l → r ≡ rejectedAt text 1 0 → out r (lent w d v) ≡ answered l model entry text
-  unfolding answered meant.outcome by-model
-  answer-unknown e z q = refused-out l text 1 0 r w d v (meant.read model (longEnough l) entry text) (read-by none e) q z
+    unknown : none ≡ modelOf model → lent w d v ≡ zeroed l → r ≡ rejectedAt text 1 0 → out r (lent w d v) ≡ answered l model entry text
+    unfolding answered meant.outcome by-model
+    unknown e z q = refused-out l text 1 0 r w d v (meant.read model (longEnough l) entry text) (read-by none e) q z
+
+  pub answer-known : (m : Model) {w′ d′ : List ℕ} {v′ : List ℤ} → some m ≡ modelOf model → Tells m entry text w d v r w′ d′ v′ → Answers model entry text w d v r w′ d′ v′
+  answer-known m e t = record { run = λ l z. known l m e z t }
+
+  pub answer-unknown : none ≡ modelOf model → r ≡ rejectedAt text 1 0 → Answers model entry text w d v r w d v
+  answer-unknown e q = record { run = λ l z. unknown l e z q }
+
+  -- slices that were zero when they were lent
+  pub answer-zeros : {w′ d′ : List ℕ} {v′ : List ℤ} → Cleared w d v → Answers model entry text w d v r w′ d′ v′ → out r (lent w′ d′ v′) ≡ answered (lent w d v) model entry text
+  answer-zeros c a = a .run (lent w d v) (c .is ∙ sym (zeroed-again (c .of) w d v (c .is) w d v refl refl refl))

@@ -26,7 +26,7 @@ use Rattle.entry.specs.declared.Counts.{Counts}
 use Rattle.entry.specs.declared.Entry.{Entry}
 use Rattle.entry.specs.declared.Entry.the-variants.{WholeHeader, SingleDeclaration}
 use Rattle.entry.specs.declared.Reading.{Reading}
-use Rattle.entry.specs.declared.Reading.the-variants.{Done, Refused}
+use Rattle.entry.specs.declared.Reading.the-variants.{Done, Untouched, Refused}
 use Rattle.entry.specs.declared.Outcome.{Outcome}
 use Rattle.entry.specs.declared.Outcome.the-variants.{Accepted, Rejected}
 
@@ -69,17 +69,23 @@ pub record Holds (a : meant.Accepted) (w d : List ℕ) (v : List ℤ) : Type 0 w
   pub limits : WithinLimits (a .table)
   pub few : length (a .names) ≤ maxNames
 
-pub data Read (a : Answer meant.Accepted) (r : Reading) (w d : List ℕ) (v : List ℤ) : Type 0 where
-  done : (x : meant.Accepted) → a ≡ got x → r ≡ Done (countsOf x) → Holds x w d v → Read a r w d v
-  stop : (n p : ℕ) → a ≡ refused n p → r ≡ Refused n p → Read a r w d v
+-- a text was read, or refused: before a number was written, or in the midst of a table
+pub data Read (a : Answer meant.Accepted) (w d : List ℕ) (v : List ℤ) (r : Reading) (w′ d′ : List ℕ) (v′ : List ℤ) : Type 0 where
+  done : (x : meant.Accepted) → a ≡ got x → r ≡ Done (countsOf x) → Holds x w′ d′ v′ → Read a w d v r w′ d′ v′
+  same : (n p : ℕ) → a ≡ refused n p → r ≡ Untouched n p → lent w′ d′ v′ ≡ lent w d v → Read a w d v r w′ d′ v′
+  stop : (n p : ℕ) → a ≡ refused n p → r ≡ Refused n p → Read a w d v r w′ d′ v′
 
 unfoldable pub readTokens : meant.Entry → Lexed → Model → Answer meant.Accepted
 readTokens entry x m = do
   t ← meant.parse entry x m
   got (record { table = t; names = nameTable x t })
 
-abbrev pub Reads : meant.Entry → Lexed → Model → Reading → List ℕ → List ℕ → List ℤ → Type 0
+abbrev pub Reads : meant.Entry → Lexed → Model → List ℕ → List ℕ → List ℤ → Reading → List ℕ → List ℕ → List ℤ → Type 0
 Reads entry x m = Read (readTokens entry x m)
+
+-- a text that is not longer is cut into columns of this length
+abbrev pub smallText : ℕ
+smallText = 1024
 
 -- ---- lent slices of any length
 
@@ -93,9 +99,10 @@ pub record Enough (w d : List ℕ) (v : List ℤ) : Type 0 where
   pub wides : widesLength ≤ length d
   pub signeds : signedsLength ≤ length v
 
--- a table was read into their front, with zeros after it
+-- a table was read into their front, with zeros after it; zeros stay where no number was written
 pub data Left (l : Lent) (a : Answer meant.Accepted) (r : Reading) (w d : List ℕ) (v : List ℤ) : Type 0 where
   done : (x : meant.Accepted) → a ≡ got x → r ≡ Done (countsOf x) → lent w d v ≡ leftIn l (meant.accepted x) → Left l a r w d v
+  same : (n p : ℕ) → a ≡ refused n p → r ≡ Untouched n p → lent w d v ≡ zeroed l → Left l a r w d v
   stop : (n p : ℕ) → a ≡ refused n p → r ≡ Refused n p → Left l a r w d v
 
 pub record Leaves (a : Answer meant.Accepted) (w d : List ℕ) (v : List ℤ) (r : Reading) (w′ d′ : List ℕ) (v′ : List ℤ) : Type 0 where
@@ -124,3 +131,7 @@ pub record Tells (m : Model) (entry : meant.Entry) (text : Bytes) (w d : List �
 
 unfoldable pub answered : Lent → ℕ → meant.Entry → Bytes → Out
 answered l model entry text = shown l (meant.outcome model (longEnough l) entry text)
+
+-- in cleared slices: so it is whatever stood there before
+pub record Answers (model : ℕ) (entry : meant.Entry) (text : Bytes) (w d : List ℕ) (v : List ℤ) (r : Outcome) (w′ d′ : List ℕ) (v′ : List ℤ) : Type 0 where
+  pub run : (l : Lent) → lent w d v ≡ zeroed l → out r (lent w′ d′ v′) ≡ answered l model entry text

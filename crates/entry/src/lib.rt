@@ -8,23 +8,26 @@ use table::kind_at;
 use tokens::BAD_CALL;
 use tokens::Lexing;
 use tokens::MAX_TEXT;
-use tokens::tokenize;
+use tokens::lex;
 use units::declarations;
 use units::lone_declaration;
 use words::kinds::END;
 use words::model::Model;
 use words::model::ModelFound;
 ghost use mathlib.Core.Path.{_≡_};
+ghost use Prim.Native.Nat.{_≤_};
+ghost use lib.ListN.{length};
 ghost use Rattle.definition.specs.Token.{here};
 ghost use Rattle.definition.specs.Entry.{parse, readWith, wholeHeader, singleDeclaration};
 ghost use Rattle.definition.specs.Table.{newTable};
 ghost use Rattle.words.specs.Meaning.{model};
 ghost use Rattle.table.specs.Held.{Encodes};
 ghost use Rattle.laws.specs.Columns.{Columns};
+ghost use Rattle.tokens.specs.Columns.{RoomIf, Zero};
 ghost use Rattle.clearing.specs.Slices.{lent};
 ghost use Rattle.definition.specs.Lent.{longEnough};
 ghost use Rattle.entry.specs.Walking.{Walkable};
-ghost use Rattle.entry.specs.Answers.{entryOf, lexed, firstCursor, countsFrom, Parses, Read, Reads, Cleared, Enough, Leaves, Tells, rejectedAt, out, answered};
+ghost use Rattle.entry.specs.Answers.{entryOf, lexed, firstCursor, countsFrom, Parses, Read, Reads, smallText, Cleared, Enough, Leaves, Tells, rejectedAt, out, answered, Answers};
 
 // A lent slice must be as long.
 pub const WORDS: usize = 78848;
@@ -32,6 +35,9 @@ pub const WORDS: usize = 78848;
 pub const WIDES: usize = 9216;
 
 pub const SIGNEDS: usize = 4096;
+
+// A text that is not longer is cut in columns of this length: the long ones cost more to clear than a short text to read.
+const SMALL_TEXT: usize = 1024;
 
 // "`declaration` finds .. more than one name".
 const NOT_ONE_DECLARATION: u32 = 24;
@@ -52,9 +58,10 @@ pub enum Outcome {
     Rejected(u32, usize, usize, usize),
 }
 
-// How a text was read: counts, or a refusal with its number and offset.
+// How a text was read: counts, or a refusal with its number and offset. `Untouched` is one before a number of the table was written.
 pub enum Reading {
     Done(Counts),
+    Untouched(u32, usize),
     Refused(u32, usize),
 }
 
@@ -187,7 +194,7 @@ fn read_tokens(
 ) -> Reading
     requires { ⌜ Columns (now kinds) (now places) (now numbers) ⌝ }
     requires { ⌜ Encodes newTable firstCursor (now w) (now d) (now v) ⌝ }
-    ensures { λ r. ⌜ Reads (entryOf entry) (lexed (now (kinds .entry)) (now (places .entry)) (now (numbers .entry)) end) (model m) r (now (w .exit)) (now (d .exit)) (now (v .exit)) ⌝ }
+    ensures { λ r. ⌜ Reads (entryOf entry) (lexed (now (kinds .entry)) (now (places .entry)) (now (numbers .entry)) end) (model m) (now (w .entry)) (now (d .entry)) (now (v .entry)) r (now (w .exit)) (now (d .exit)) (now (v .exit)) ⌝ }
 {
     let r = parse_tokens(entry, kinds, places, numbers, end, m, w, d, v);
     match r {
@@ -199,22 +206,24 @@ fn read_tokens(
     }
 }
 
-// A text read into a new table.
-fn read_text(
+// A text cut in columns of zeros, and read into a new table.
+fn read_columns(
     entry: Entry,
     text: &[u8],
+    kinds: &mut [u32],
+    places: &mut [u32],
+    numbers: &mut [u64],
     m: Model,
     w: &mut [u32],
     d: &mut [u64],
     v: &mut [i64],
 ) -> Reading
+    requires { ⌜ RoomIf (now text) (now kinds) (now places) (now numbers) ⌝ }
+    requires { ⌜ Zero (now kinds) (now places) (now numbers) (now kinds) (now places) (now numbers) ⌝ }
     requires { ⌜ Encodes newTable firstCursor (now w) (now d) (now v) ⌝ }
-    ensures { λ r. ⌜ Read (readWith (model m) (entryOf entry) (now (text .entry))) r (now (w .exit)) (now (d .exit)) (now (v .exit)) ⌝ }
+    ensures { λ r. ⌜ Read (readWith (model m) (entryOf entry) (now (text .entry))) (now (w .entry)) (now (d .entry)) (now (v .entry)) r (now (w .exit)) (now (d .exit)) (now (v .exit)) ⌝ }
 {
-    let mut kinds = [0u32; MAX_TEXT];
-    let mut places = [0u32; MAX_TEXT];
-    let mut numbers = [0u64; MAX_TEXT];
-    let r = tokenize(text, &mut kinds, &mut places, &mut numbers);
+    let r = lex(text, kinds, places, numbers);
     match r {
         Lexing::Done(count) => read_tokens(
             entry,
@@ -227,8 +236,81 @@ fn read_text(
             d,
             v,
         ),
-        Lexing::Refused(n, p) => Reading::Refused(n, p),
+        Lexing::Refused(n, p) => Reading::Untouched(n, p),
     }
+}
+
+fn read_small(
+    entry: Entry,
+    text: &[u8],
+    m: Model,
+    w: &mut [u32],
+    d: &mut [u64],
+    v: &mut [i64],
+) -> Reading
+    requires { ⌜ length (now text) ≤ smallText ⌝ }
+    requires { ⌜ Encodes newTable firstCursor (now w) (now d) (now v) ⌝ }
+    ensures { λ r. ⌜ Read (readWith (model m) (entryOf entry) (now (text .entry))) (now (w .entry)) (now (d .entry)) (now (v .entry)) r (now (w .exit)) (now (d .exit)) (now (v .exit)) ⌝ }
+{
+    let mut kinds = [0u32; SMALL_TEXT];
+    let mut places = [0u32; SMALL_TEXT];
+    let mut numbers = [0u64; SMALL_TEXT];
+    read_columns(
+        entry,
+        text,
+        &mut kinds,
+        &mut places,
+        &mut numbers,
+        m,
+        w,
+        d,
+        v,
+    )
+}
+
+fn read_large(
+    entry: Entry,
+    text: &[u8],
+    m: Model,
+    w: &mut [u32],
+    d: &mut [u64],
+    v: &mut [i64],
+) -> Reading
+    requires { ⌜ Encodes newTable firstCursor (now w) (now d) (now v) ⌝ }
+    ensures { λ r. ⌜ Read (readWith (model m) (entryOf entry) (now (text .entry))) (now (w .entry)) (now (d .entry)) (now (v .entry)) r (now (w .exit)) (now (d .exit)) (now (v .exit)) ⌝ }
+{
+    let mut kinds = [0u32; MAX_TEXT];
+    let mut places = [0u32; MAX_TEXT];
+    let mut numbers = [0u64; MAX_TEXT];
+    read_columns(
+        entry,
+        text,
+        &mut kinds,
+        &mut places,
+        &mut numbers,
+        m,
+        w,
+        d,
+        v,
+    )
+}
+
+// A text read into a new table.
+fn read_text(
+    entry: Entry,
+    text: &[u8],
+    m: Model,
+    w: &mut [u32],
+    d: &mut [u64],
+    v: &mut [i64],
+) -> Reading
+    requires { ⌜ Encodes newTable firstCursor (now w) (now d) (now v) ⌝ }
+    ensures { λ r. ⌜ Read (readWith (model m) (entryOf entry) (now (text .entry))) (now (w .entry)) (now (d .entry)) (now (v .entry)) r (now (w .exit)) (now (d .exit)) (now (v .exit)) ⌝ }
+{
+    if text.len() <= SMALL_TEXT {
+        return read_small(entry, text, m, w, d, v);
+    }
+    read_large(entry, text, m, w, d, v)
 }
 
 // The same into the front of slices that may be longer.
@@ -287,10 +369,30 @@ fn read_with(
     let r = read_front(entry, text, m, w, d, v);
     match r {
         Reading::Done(counts) => Outcome::Accepted(counts),
+        Reading::Untouched(n, offset) => reject(text, n, offset),
         Reading::Refused(n, offset) => {
             clear(w, d, v);
             reject(text, n, offset)
         }
+    }
+}
+
+// In slices that are zero throughout.
+fn read_cleared(
+    entry: Entry,
+    text: &[u8],
+    number: u32,
+    w: &mut [u32],
+    d: &mut [u64],
+    v: &mut [i64],
+) -> Outcome
+    requires { ⌜ Cleared (now w) (now d) (now v) ⌝ }
+    ensures { λ r. ⌜ Answers number (entryOf entry) (now (text .entry)) (now (w .entry)) (now (d .entry)) (now (v .entry)) r (now (w .exit)) (now (d .exit)) (now (v .exit)) ⌝ }
+{
+    let found = Model::numbered(number);
+    match found {
+        ModelFound::Found(m) => read_with(entry, text, m, w, d, v),
+        ModelFound::Unknown => reject(text, BAD_CALL, 0),
     }
 }
 
@@ -305,11 +407,7 @@ fn read(
     ensures { λ r. ⌜ out r (lent (now (w .exit)) (now (d .exit)) (now (v .exit))) ≡ answered (lent (now (w .entry)) (now (d .entry)) (now (v .entry))) number (entryOf entry) (now (text .entry)) ⌝ }
 {
     clear(w, d, v);
-    let found = Model::numbered(number);
-    match found {
-        ModelFound::Found(m) => read_with(entry, text, m, w, d, v),
-        ModelFound::Unknown => reject(text, BAD_CALL, 0),
-    }
+    read_cleared(entry, text, number, w, d, v)
 }
 
 // A whole header.
@@ -332,4 +430,34 @@ pub fn declaration(text: &[u8], model: u32, w: &mut [u32], d: &mut [u64], v: &mu
     ensures { λ r. ⌜ Walkable model (longEnough (lent (now (w .entry)) (now (d .entry)) (now (v .entry)))) singleDeclaration (now (text .entry)) ⌝ }
 {
     read(Entry::SingleDeclaration, text, model, w, d, v)
+}
+
+// A whole header, in slices that are zero throughout: who keeps them so between calls need not pay for clearing 422 KB.
+pub fn translation_unit_in_zeros(
+    text: &[u8],
+    model: u32,
+    w: &mut [u32],
+    d: &mut [u64],
+    v: &mut [i64],
+) -> Outcome
+    requires { ⌜ Cleared (now w) (now d) (now v) ⌝ }
+    ensures { λ r. ⌜ out r (lent (now (w .exit)) (now (d .exit)) (now (v .exit))) ≡ answered (lent (now (w .entry)) (now (d .entry)) (now (v .entry))) model wholeHeader (now (text .entry)) ⌝ }
+    ensures { λ r. ⌜ Walkable model (longEnough (lent (now (w .entry)) (now (d .entry)) (now (v .entry)))) wholeHeader (now (text .entry)) ⌝ }
+{
+    read_cleared(Entry::WholeHeader, text, model, w, d, v)
+}
+
+// One declaration, in the same.
+pub fn declaration_in_zeros(
+    text: &[u8],
+    model: u32,
+    w: &mut [u32],
+    d: &mut [u64],
+    v: &mut [i64],
+) -> Outcome
+    requires { ⌜ Cleared (now w) (now d) (now v) ⌝ }
+    ensures { λ r. ⌜ out r (lent (now (w .exit)) (now (d .exit)) (now (v .exit))) ≡ answered (lent (now (w .entry)) (now (d .entry)) (now (v .entry))) model singleDeclaration (now (text .entry)) ⌝ }
+    ensures { λ r. ⌜ Walkable model (longEnough (lent (now (w .entry)) (now (d .entry)) (now (v .entry)))) singleDeclaration (now (text .entry)) ⌝ }
+{
+    read_cleared(Entry::SingleDeclaration, text, model, w, d, v)
 }

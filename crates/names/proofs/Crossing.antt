@@ -2,11 +2,11 @@
 use mathlib.Core.Path.{_≡_, refl, sym, ap, _∙_}
 use mathlib.Core.Bool.{Bool, true, false, _&&_, _||_}
 use mathlib.Core.List.{List, [], _∷_, _++_}
-use Prim.Native.Nat.{ℕ, _+_, _*_, _≤_, _<_}
+use Prim.Native.Nat.{ℕ, _+_, _-_, _*_, _≤_, _<_}
 use native.Mathlib.Omega.{arith}
 use native.Mathlib.Numerals.{add-one}
 use lib.Dec.{eqb}
-use lib.ListN.{length, getD, set}
+use lib.ListN.{length, getD, set, List·getD-eq-default}
 use lib.Seq.{getD-set-same, getD-set-other}
 use borrow.Author.Tests.{ne-eqb, eqb-true, eqb-false}
 use Rattle.definition.specs.Kind.{isName}
@@ -15,7 +15,23 @@ use Rattle.definition.specs.Limit.{maxText}
 use Rattle.definition.specs.NameTable.{isHeld}
 use Rattle.laws.specs.Columns.{Columns}
 use Rattle.names.specs.Names.{isFirst}
-use Rattle.names.specs.Striking.{column, Listed, slot, left, Struck, Found}
+use Rattle.names.specs.Striking.{column, lastPlace, PlacesBelow, Listed, slot, left, Struck, Found}
+
+-- ---- places
+
+module _ {ks ps ns : List ℕ} (c : Columns ks ps ns) where
+  pub all-below : PlacesBelow ps maxText
+  all-below = record { at = λ i l. c .within i (omega (arith, c .places)) }
+
+  -- the last is the greatest
+  pub last-below : (n : ℕ) → lastPlace ps < n → PlacesBelow ps n
+  last-below n q = record { at = λ i l. go i l (eqb i (length ps - 1)) refl }
+    where
+      go : (i : ℕ) → i < length ps → (b : Bool) → eqb i (length ps - 1) ≡ b → getD ps i 0 < n
+      go i l true t = let z : i ≡ length ps - 1 = eqb-true i (length ps - 1) t in rw z q
+      go i l false t =
+          let z : i < length ps - 1 = omega (arith, eqb-false i (length ps - 1) t) in
+          omega (arith, c .rising i (length ps - 1) z (omega (arith, c .places)))
 
 -- ---- listing
 
@@ -39,12 +55,12 @@ pub record ListedTo (ks ps ns m : List ℕ) (i : ℕ) : Type 0 where
   pub at : (j : ℕ) → j < i → isFirst (getD ks j 0) (getD ps j 0) (getD ns j 0) ≡ true → getD m (getD ps j 0) 0 ≡ getD ns j 0
 
 module _ {ks ps ns m : List ℕ} {i : ℕ} (h : ListedTo ks ps ns m i) where
-  module _ (c : Columns ks ps ns) (l : i < length ks) (long : length m ≡ maxText) where
+  module _ (c : Columns ks ps ns) (l : i < length ks) (below : PlacesBelow ps (length m)) where
     pub list-more : ListedTo ks ps ns (set m (getD ps i 0) (getD ns i 0)) (i + 1)
     list-more = record { at = λ j q e. go j q e (eqb j i) refl }
       where
         go : (j : ℕ) → j < i + 1 → isFirst (getD ks j 0) (getD ps j 0) (getD ns j 0) ≡ true → (b : Bool) → eqb j i ≡ b → getD (set m (getD ps i 0) (getD ns i 0)) (getD ps j 0) 0 ≡ getD ns j 0
-        go j q e true t = let z : j ≡ i = eqb-true j i t in rw z (getD-set-same m (getD ps i 0) (getD ns i 0) 0 (let a = c .within i l in omega arith))
+        go j q e true t = let z : j ≡ i = eqb-true j i t in rw z (getD-set-same m (getD ps i 0) (getD ns i 0) 0 (below .at i (omega (arith, c .places))))
         go j q e false t =
             let z : j < i = omega (arith, eqb-false j i t) in
             let r = c .rising j i z l in
@@ -107,8 +123,8 @@ struck-on {hs} {gs} f g = record {
 
 -- one name: it was listed,
 module _ (m : List ℕ) (h : ℕ) where
-  pub strike-it : length m ≡ maxText → getD m (slot h) 0 ≡ h → Struck (h ∷ []) m (set m (slot h) 0)
-  strike-it long is = record { at = λ n q b e. ap (λ (x : ℕ). x) (go n q b e (eqb (slot n) (slot h)) refl) ∙ ap (λ (x : Bool). left (b || x) n) (sym (held-one n h)) }
+  pub strike-it : slot h < length m → getD m (slot h) 0 ≡ h → Struck (h ∷ []) m (set m (slot h) 0)
+  strike-it l is = record { at = λ n q b e. ap (λ (x : ℕ). x) (go n q b e (eqb (slot n) (slot h)) refl) ∙ ap (λ (x : Bool). left (b || x) n) (sym (held-one n h)) }
     where
       same : (n : ℕ) → 0 < n → (b : Bool) → getD m (slot n) 0 ≡ left b n → slot n ≡ slot h → (d : Bool) → eqb h n ≡ d → 0 ≡ left (b || d) n
       same n q true e s d t = refl
@@ -123,17 +139,21 @@ module _ (m : List ℕ) (h : ℕ) where
 
       go : (n : ℕ) → 0 < n → (b : Bool) → getD m (slot n) 0 ≡ left b n → (d : Bool) → eqb (slot n) (slot h) ≡ d → getD (set m (slot h) 0) (slot n) 0 ≡ left (b || eqb h n) n
       go n q b e true t = let s : slot n ≡ slot h = eqb-true (slot n) (slot h) t in
-          (rw s (getD-set-same m (slot h) 0 0 (omega arith))) ∙ same n q b e s (eqb h n) refl
+          (rw s (getD-set-same m (slot h) 0 0 l)) ∙ same n q b e s (eqb h n) refl
       go n q b e false t = let s = eqb-false (slot n) (slot h) t in getD-set-other m (slot h) (slot n) 0 0 s ∙ other n b e s (eqb h n) refl
 
   -- or it was not
-  pub strike-no : (getD m (slot h) 0 ≡ h → ⊥) → Struck (h ∷ []) m m
-  strike-no out = record { at = λ n q b e. go n b e (eqb h n) refl ∙ ap (λ (x : Bool). left (b || x) n) (sym (held-one n h)) }
+  pub strike-no : (0 < h → getD m (slot h) 0 ≡ h → ⊥) → Struck (h ∷ []) m m
+  strike-no out = record { at = λ n q b e. go n q b e (eqb h n) refl ∙ ap (λ (x : Bool). left (b || x) n) (sym (held-one n h)) }
     where
-      go : (n : ℕ) (b : Bool) → getD m (slot n) 0 ≡ left b n → (d : Bool) → eqb h n ≡ d → getD m (slot n) 0 ≡ left (b || d) n
-      go n true e d t = e
-      go n false e true t = let x : h ≡ n = eqb-true h n t in absurd (out (ap (λ (i : ℕ). getD m (slot i) 0) x ∙ (e ∙ sym x)))
-      go n false e false t = e
+      go : (n : ℕ) → 0 < n → (b : Bool) → getD m (slot n) 0 ≡ left b n → (d : Bool) → eqb h n ≡ d → getD m (slot n) 0 ≡ left (b || d) n
+      go n q true e d t = e
+      go n q false e true t = let x : h ≡ n = eqb-true h n t in absurd (out (omega arith) (ap (λ (i : ℕ). getD m (slot i) 0) x ∙ (e ∙ sym x)))
+      go n q false e false t = e
+
+  -- nor could it be
+  pub strike-past : length m ≤ slot h → Struck (h ∷ []) m m
+  strike-past l = strike-no (λ q e. omega (arith, List·getD-eq-default m 0 l))
 
 -- the column, one number more
 pub column-more : (w : List ℕ) (start width i : ℕ) → column w start width (i + 1) ≡ column w start width i ++ getD w (start + width * i) 0 ∷ []
@@ -148,12 +168,10 @@ column-none w start width = refl
 
 module _ {ks ps ns m m′ held : List ℕ} (c : Columns ks ps ns) where
   pub found : Listed ks ps ns m → Struck held m m′ → Found ks ps ns m′ held
-  unfolding offsetOf
   found l s = record {
     at = λ i q e.
         let k = first-name (getD ks i 0) (getD ps i 0) (getD ns i 0) e in
-        let o = first-place (getD ks i 0) (getD ps i 0) (getD ns i 0) e in
-        let p : slot (getD ns i 0) ≡ getD ps i 0 = (let a = c .within i q in omega arith) in
+        let p : slot (getD ns i 0) ≡ getD ps i 0 = first-place (getD ks i 0) (getD ps i 0) (getD ns i 0) e in
         let z = c .some i k in
         let r : getD m (slot (getD ns i 0)) 0 ≡ left false (getD ns i 0) = ap (λ (x : ℕ). getD m x 0) p ∙ l .at i q e in
         let u : getD m′ (getD ps i 0) 0 ≡ left (isHeld (getD ns i 0) held) (getD ns i 0) = ap (λ (x : ℕ). getD m′ x 0) (sym p) ∙ s .at (getD ns i 0) z false r in

@@ -2,10 +2,10 @@
 use mathlib.Core.Path.{_≡_}
 use mathlib.Core.Bool.{Bool, true, false, _||_}
 use mathlib.Core.List.{List, [], _∷_, _++_}
-use Prim.Native.Nat.{ℕ, zero, suc, _+_, _*_, _%_, _<_}
+use Prim.Native.Nat.{ℕ, zero, suc, _+_, _-_, _*_, _<_}
 use lib.Dec.{eqb}
 use lib.ListN.{length, getD}
-use Rattle.definition.specs.Limit.{maxText}
+use Rattle.definition.specs.Name.{offsetOf}
 use Rattle.definition.specs.Table.{Table}
 use Rattle.definition.specs.NameTable.{heldNames, isHeld, namesAmong}
 use Rattle.definition.specs.Lent.{words}
@@ -19,13 +19,25 @@ unfoldable pub column : List ℕ → ℕ → ℕ → ℕ → List ℕ
 column w start width zero = []
 column w start width (suc i) = column w start width i ++ getD w (start + width * i) 0 ∷ []
 
+-- a text whose tokens all stand below it is small
+abbrev pub smallText : ℕ
+smallText = 1024
+
+-- the place of the last token, 0 of none
+abbrev pub lastPlace : List ℕ → ℕ
+lastPlace ps = getD ps (length ps - 1) 0
+
+-- a list of n numbers has one for every place
+pub record PlacesBelow (ps : List ℕ) (n : ℕ) : Type 0 where
+  pub at : (i : ℕ) → i < length ps → getD ps i 0 < n
+
 -- every name at its first place is listed there
 pub record Listed (ks ps ns m : List ℕ) : Type 0 where
   pub at : (i : ℕ) → i < length ks → isFirst (getD ks i 0) (getD ps i 0) (getD ns i 0) ≡ true → getD m (getD ps i 0) 0 ≡ getD ns i 0
 
 -- where a name is listed
 abbrev pub slot : ℕ → ℕ
-slot n = n % maxText
+slot n = offsetOf n
 
 -- what stands there: the name, or 0 where it was struck out
 abbrev pub left : Bool → ℕ → ℕ
@@ -44,7 +56,7 @@ pub record Found (ks ps ns m held : List ℕ) : Type 0 where
 
 pub record Ready (ks ps ns m w : List ℕ) : Type 0 where
   pub columns : Columns ks ps ns
-  pub long : length m ≡ maxText
+  pub below : PlacesBelow ps (length m)
   pub table : Table
   pub words : InWords table w
   pub found : Found ks ps ns m (heldNames table)

@@ -13,6 +13,7 @@ use table::VALUES_AT;
 use words::classes::is_name;
 ghost use mathlib.Core.Path.{_≡_};
 ghost use mathlib.Core.Bool.{_&&_};
+ghost use mathlib.Core.List.{[], _∷_};
 ghost use Prim.Native.Nat.{_+_, _*_, _≤_, _<_};
 ghost use lib.Dec.{eqb};
 ghost use lib.ListN.{length, getD};
@@ -20,10 +21,13 @@ ghost use Rattle.definition.specs.Lent.{wordsLength};
 ghost use Rattle.table.specs.Held.{Room};
 ghost use Rattle.laws.specs.Columns.{Columns};
 ghost use Rattle.names.specs.Names.{isFirst, HeldWords, Writes};
-ghost use Rattle.names.specs.Striking.{column, Listed, Struck, Strikes, Ready, Fills};
+ghost use Rattle.names.specs.Striking.{column, smallText, lastPlace, PlacesBelow, Listed, Struck, Strikes, Ready, Fills};
 
 // A text has at most as many bytes.
 pub const MAX_TEXT: usize = 32768;
+
+// Where the last token stands below it, so do all: the list of names is shorter, and less has to be cleared.
+const SMALL_TEXT: usize = 1024;
 
 pub const NAMES_AT: usize = 46080;
 
@@ -53,7 +57,7 @@ fn is_first(kind: u32, place: u32, number: u64) -> bool
 // Lists each name of the text at its first place.
 fn list(kinds: &[u32], places: &[u32], numbers: &[u64], listed: &mut [u32])
     requires { ⌜ Columns (now kinds) (now places) (now numbers) ⌝ }
-    requires { ⌜ length (now listed) ≡ 32768 ⌝ }
+    requires { ⌜ PlacesBelow (now places) (length (now listed)) ⌝ }
     ensures { λ r. ⌜ Listed (now (kinds .entry)) (now (places .entry)) (now (numbers .entry)) (now (listed .exit)) ⌝ }
 {
     let mut i = 0;
@@ -69,24 +73,32 @@ fn list(kinds: &[u32], places: &[u32], numbers: &[u64], listed: &mut [u32])
     }
 }
 
-// Strikes out the names of a region's entries. A name that is listed stands below 32,768, so that no other offset has to be told apart from it.
+// Strikes out a name where it is listed: at its offset, if at all. A test is cheaper than a remainder by the list's length.
+fn strike_name(name: u32, listed: &mut [u32])
+    ensures { λ r. ⌜ Struck (name ∷ []) (now (listed .entry)) (now (listed .exit)) ⌝ }
+{
+    let slot = (name as u64 % NAME_LENGTH) as usize;
+    if slot >= listed.len() {
+        return;
+    }
+    if listed[slot] == name {
+        listed[slot] = 0;
+        return;
+    }
+}
+
+// Strikes out the names of a region's entries.
 fn strike(w: &[u32], start: usize, width: usize, count: usize, listed: &mut [u32])
     requires { ⌜ 0 < width ⌝ }
     requires { ⌜ start + width * count ≤ length (now w) ⌝ }
-    requires { ⌜ length (now listed) ≡ 32768 ⌝ }
     ensures { λ r. ⌜ Struck (column (now (w .entry)) start width count) (now (listed .entry)) (now (listed .exit)) ⌝ }
 {
     let mut at = start;
     let mut i = 0;
     while i < count {
-        let name = w[at];
-        let slot = (name as usize) % MAX_TEXT;
+        strike_name(w[at], listed);
         at += width;
         i += 1;
-        if listed[slot] == name {
-            listed[slot] = 0;
-            continue;
-        }
     }
 }
 
@@ -94,7 +106,6 @@ fn strike(w: &[u32], start: usize, width: usize, count: usize, listed: &mut [u32
 fn strike_all(w: &[u32], c: Cursor, listed: &mut [u32])
     requires { ⌜ length (now w) ≡ wordsLength ⌝ }
     requires { ⌜ Room c ⌝ }
-    requires { ⌜ length (now listed) ≡ 32768 ⌝ }
     ensures { λ r. ⌜ Strikes (now (w .entry)) c (now (listed .entry)) (now (listed .exit)) ⌝ }
 {
     strike(w, ROW_NAME, ROW_WORDS, c.rows, listed);
@@ -147,14 +158,65 @@ fn write(kinds: &[u32], places: &[u32], numbers: &[u64], listed: &[u32], w: &mut
     count
 }
 
+// Fills the names' part of the slice by a list that has a number for every place.
+fn fill(
+    kinds: &[u32],
+    places: &[u32],
+    numbers: &[u64],
+    listed: &mut [u32],
+    w: &mut [u32],
+    c: Cursor,
+) -> usize
+    requires { ⌜ Columns (now kinds) (now places) (now numbers) ⌝ }
+    requires { ⌜ PlacesBelow (now places) (length (now listed)) ⌝ }
+    requires { ⌜ HeldWords c (now w) ⌝ }
+    ensures { λ r. ⌜ Writes (now (kinds .entry)) (now (places .entry)) (now (numbers .entry)) c (now (w .entry)) r (now (w .exit)) ⌝ }
+{
+    list(kinds, places, numbers, listed);
+    strike_all(w, c, listed);
+    write(kinds, places, numbers, listed, w)
+}
+
+// All tokens stand below SMALL_TEXT.
+fn fill_small(kinds: &[u32], places: &[u32], numbers: &[u64], w: &mut [u32], c: Cursor) -> usize
+    requires { ⌜ Columns (now kinds) (now places) (now numbers) ⌝ }
+    requires { ⌜ PlacesBelow (now places) smallText ⌝ }
+    requires { ⌜ HeldWords c (now w) ⌝ }
+    ensures { λ r. ⌜ Writes (now (kinds .entry)) (now (places .entry)) (now (numbers .entry)) c (now (w .entry)) r (now (w .exit)) ⌝ }
+{
+    let mut listed = [0u32; SMALL_TEXT];
+    fill(kinds, places, numbers, &mut listed, w, c)
+}
+
+// Tokens stand wherever a text has bytes.
+fn fill_large(kinds: &[u32], places: &[u32], numbers: &[u64], w: &mut [u32], c: Cursor) -> usize
+    requires { ⌜ Columns (now kinds) (now places) (now numbers) ⌝ }
+    requires { ⌜ HeldWords c (now w) ⌝ }
+    ensures { λ r. ⌜ Writes (now (kinds .entry)) (now (places .entry)) (now (numbers .entry)) c (now (w .entry)) r (now (w .exit)) ⌝ }
+{
+    let mut listed = [0u32; MAX_TEXT];
+    fill(kinds, places, numbers, &mut listed, w, c)
+}
+
+// The place of the last token, which is the greatest; 0 without tokens.
+fn last_place(places: &[u32]) -> u32
+    ensures { λ r. ⌜ r ≡ lastPlace (now (places .entry)) ⌝ }
+{
+    let count = places.len();
+    if count == 0 {
+        return 0;
+    }
+    places[count - 1]
+}
+
 // Fills the names' part of the slice with the names that the table's entries hold; their number. The columns are those of a text's tokens.
 pub fn fill_names(kinds: &[u32], places: &[u32], numbers: &[u64], w: &mut [u32], c: Cursor) -> usize
     requires { ⌜ Columns (now kinds) (now places) (now numbers) ⌝ }
     requires { ⌜ HeldWords c (now w) ⌝ }
     ensures { λ r. ⌜ Writes (now (kinds .entry)) (now (places .entry)) (now (numbers .entry)) c (now (w .entry)) r (now (w .exit)) ⌝ }
 {
-    let mut listed = [0u32; MAX_TEXT];
-    list(kinds, places, numbers, &mut listed);
-    strike_all(w, c, &mut listed);
-    write(kinds, places, numbers, &listed, w)
+    if (last_place(places) as usize) < SMALL_TEXT {
+        return fill_small(kinds, places, numbers, w, c);
+    }
+    fill_large(kinds, places, numbers, w, c)
 }

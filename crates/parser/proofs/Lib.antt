@@ -4,3 +4,4 @@ pub mod TypeWords
 pub mod Composites
 pub mod Lists
 pub mod Declaring
+pub mod Plain

@@ -13,16 +13,15 @@ use Rattle.definition.specs.Kind.{openParen, openBracket, closeParen, ellipsis,
 use Rattle.definition.specs.Name.{noName}
 use Rattle.definition.specs.Token.{Tokens, kindAt, left}
 use Rattle.definition.specs.Model.{Model}
-use Rattle.definition.specs.Table.{State, skip, storageNumber, noStorage, markOf, pushParameter}
+use Rattle.definition.specs.Table.{State, skip, storageNumber, noStorage}
 use Rattle.definition.specs.Specifier.{Specifiers, basedOn, namesType, isTypeWord}
 use Rattle.definition.specs.Specifiers.{specifiers, specifiersFrom, isTagWord, baseType, taggedType, namedType}
 use Rattle.definition.specs.Grammar.{DeclaratorStep, arrayStep, Declarator, withStep, Levels, stands}
-use Rattle.definition.specs.Declarator.{apply, adjusted, arrayBound, parameter, suffixesFrom, oneMoreStep}
+use Rattle.definition.specs.Declarator.{apply, arrayBound, parameter, suffixesFrom, oneMoreStep}
 use Rattle.definition.specs.Composite.{memberDeclarator, memberDeclaration}
 use Rattle.specifier_words.specs.Untyped.{typeFrom}
 use Rattle.member_entries.specs.Pieces.{field}
 use Rattle.member_entries.proofs.Made.{declarator-made}
-use Rattle.parameter_entries.specs.Parameters.{addedParameter}
 use Rattle.parser.specs.Pieces.{typeRow, afterType, suffixStep, typedFrom}
 
 -- calls one after the other, however they are grouped
@@ -44,14 +43,6 @@ after e k = rw e
 
 unlike : openParen ≡ openBracket → ⊥
 unlike e = absurd (omega arith)
-
--- a parameter becomes an entry
-pub added-made : {A : Type 0} (first at type name : ℕ) (s : State) (k : ℕ × State → Answer A) → (addedParameter first at type name s >>= k) ≡ (do
-  a ← adjusted at type s
-  e ← pushParameter (record { row = markOf first; type = a .0; name = name }) (a .1)
-  k e)
-unfolding addedParameter
-added-made first at type name s k = sym (grouped (adjusted at type s) (λ a. pushParameter (record { row = markOf first; type = a .0; name = name }) (a .1)) k)
 
 module _ (ts : Tokens) (m : Model) (next : Levels) where
   -- a word that names a type by a row

@@ -6,6 +6,7 @@ use basing::named_type;
 use bodies::add_body;
 use bodies::define_body;
 use declarator_heads::Declared;
+use declarator_heads::is_plain;
 use declarator_heads::opens_declarator;
 use declarator_heads::stars;
 use deriving::apply;
@@ -57,6 +58,7 @@ use words::kinds::OPEN_BRACE;
 use words::kinds::OPEN_BRACKET;
 use words::kinds::OPEN_PAREN;
 use words::kinds::SEMICOLON;
+use words::kinds::STAR;
 use words::kinds::UNION_WORD;
 use words::model::Model;
 use words::specifiers::Specifiers;
@@ -85,6 +87,9 @@ const LAYOUT_ATTRIBUTE: u32 = 13;
 const MEMBER_STORAGE: u32 = 17;
 
 const NO_STORAGE: u32 = 0;
+
+// The levels that a name takes: a declarator's, and that of what its stars stand before.
+const NAME_LEVELS: u32 = 2;
 
 // Specifiers, or a type with a name, each with where to read on; or a refusal.
 pub enum Specified {
@@ -534,6 +539,9 @@ fn declarator(
     if room == 0 {
         return Declared::new(Step::Refused(TOO_DEEP, c.at), s);
     }
+    if kind_at(kinds, c.at) != STAR {
+        return direct(kinds, numbers, w, d, v, c, m, s, room - 1);
+    }
     let used = s.held;
     let t = stars(kinds, c, s);
     let read = t.answer;
@@ -726,7 +734,7 @@ fn parameter(
     }
 }
 
-// A declarator of a base type: what it makes of the type, and its name.
+// A declarator of a base type: what it makes of the type, and its name. A name alone makes nothing of it, and needs no steps.
 pub fn declared_type(
     kinds: &[u32],
     numbers: &[u64],
@@ -742,6 +750,10 @@ pub fn declared_type(
     requires { ⌜ Readable (now kinds) (now numbers) ⌝ }
     ensures { λ r. ⌜ Runs bothNumbers (typedFrom (levels (tokens (now (kinds .entry)) (now (numbers .entry))) (model m) room) b) c (now (w .entry)) (now (d .entry)) (now (v .entry)) (typed r) (now (w .exit)) (now (d .exit)) (now (v .exit)) ⌝ }
 {
+    let at = c.at;
+    if is_plain(kinds, at) & (NAME_LEVELS <= room) {
+        return Typed::Done(c.moved(at + 1), b, name_at(numbers, at));
+    }
     let t = declarator(kinds, numbers, w, d, v, c, m, empty(), room);
     let answer = t.answer;
     let pending = t.steps;

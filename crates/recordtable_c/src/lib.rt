@@ -1,7 +1,9 @@
 // The reader for programs in C and Rust: functions on numbers and lent slices, each a pointer and a length there. `include/recordtable.h` declares them.
 use entry::Outcome;
 use entry::declaration;
+use entry::declaration_in_zeros;
 use entry::translation_unit;
+use entry::translation_unit_in_zeros;
 use reports::report_declaration;
 use reports::report_unit;
 ghost use Rattle.definition.specs.Listing.{printedOutcome};
@@ -10,7 +12,7 @@ ghost use mathlib.Core.Path.{_≡_};
 ghost use mathlib.Core.List.{[], _∷_};
 ghost use lib.ListN.{set};
 ghost use Rattle.definition.specs.Entry.{wholeHeader, singleDeclaration};
-ghost use Rattle.definition.specs.Lent.{leftIn};
+ghost use Rattle.definition.specs.Lent.{zeroed, leftIn};
 ghost use Rattle.clearing.specs.Slices.{lent};
 ghost use Rattle.recordtable_c.specs.Told.{outcomeIn, numberOf, numbersOf, numberTold, numbersTold, over};
 
@@ -94,6 +96,44 @@ pub extern "C" fn recordtable_declaration(
     ensures { λ _. ⌜ lent (now (words .exit)) (now (wides .exit)) (now (signeds .exit)) ≡ leftIn (lent (now (words .entry)) (now (wides .entry)) (now (signeds .entry))) (outcomeIn (lent (now (words .entry)) (now (wides .entry)) (now (signeds .entry))) model singleDeclaration (now (text .entry))) ⌝ }
 {
     let outcome = declaration(text, model, words, wides, signeds);
+    tell(outcome, answer)
+}
+
+// A whole header, in slices of which every number is 0 already: a caller that keeps them so does not pay for clearing them.
+#[no_mangle]
+pub extern "C" fn recordtable_unit_in_zeros(
+    text: &[u8],
+    model: u32,
+    words: &mut [u32],
+    wides: &mut [u64],
+    signeds: &mut [i64],
+    answer: &mut [u64],
+) -> u32
+    requires { ⌜ lent (now words) (now wides) (now signeds) ≡ zeroed (lent (now words) (now wides) (now signeds)) ⌝ }
+    ensures { λ r. ⌜ r ≡ numberOf (outcomeIn (lent (now (words .entry)) (now (wides .entry)) (now (signeds .entry))) model wholeHeader (now (text .entry))) ⌝ }
+    ensures { λ _. ⌜ now (answer .exit) ≡ over (numbersOf (outcomeIn (lent (now (words .entry)) (now (wides .entry)) (now (signeds .entry))) model wholeHeader (now (text .entry)))) (now (answer .entry)) ⌝ }
+    ensures { λ _. ⌜ lent (now (words .exit)) (now (wides .exit)) (now (signeds .exit)) ≡ leftIn (lent (now (words .entry)) (now (wides .entry)) (now (signeds .entry))) (outcomeIn (lent (now (words .entry)) (now (wides .entry)) (now (signeds .entry))) model wholeHeader (now (text .entry))) ⌝ }
+{
+    let outcome = translation_unit_in_zeros(text, model, words, wides, signeds);
+    tell(outcome, answer)
+}
+
+// One declaration, in the same.
+#[no_mangle]
+pub extern "C" fn recordtable_declaration_in_zeros(
+    text: &[u8],
+    model: u32,
+    words: &mut [u32],
+    wides: &mut [u64],
+    signeds: &mut [i64],
+    answer: &mut [u64],
+) -> u32
+    requires { ⌜ lent (now words) (now wides) (now signeds) ≡ zeroed (lent (now words) (now wides) (now signeds)) ⌝ }
+    ensures { λ r. ⌜ r ≡ numberOf (outcomeIn (lent (now (words .entry)) (now (wides .entry)) (now (signeds .entry))) model singleDeclaration (now (text .entry))) ⌝ }
+    ensures { λ _. ⌜ now (answer .exit) ≡ over (numbersOf (outcomeIn (lent (now (words .entry)) (now (wides .entry)) (now (signeds .entry))) model singleDeclaration (now (text .entry)))) (now (answer .entry)) ⌝ }
+    ensures { λ _. ⌜ lent (now (words .exit)) (now (wides .exit)) (now (signeds .exit)) ≡ leftIn (lent (now (words .entry)) (now (wides .entry)) (now (signeds .entry))) (outcomeIn (lent (now (words .entry)) (now (wides .entry)) (now (signeds .entry))) model singleDeclaration (now (text .entry))) ⌝ }
+{
+    let outcome = declaration_in_zeros(text, model, words, wides, signeds);
     tell(outcome, answer)
 }
 

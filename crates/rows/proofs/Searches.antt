@@ -3,7 +3,7 @@ use mathlib.Core.Path.{_≡_, refl, sym, ap, _∙_}
 use mathlib.Core.Bool.{Bool, true, false, _&&_, _||_}
 use mathlib.Core.Option.{Option, none, some}
 use mathlib.Core.List.{List, [], _∷_}
-use Prim.Native.Nat.{ℕ, zero, suc, _+_, _-_, _≤_, _<_}
+use Prim.Native.Nat.{ℕ, zero, suc, _+_, _-_, _*_, _≤_, _<_}
 use native.Mathlib.Omega.{arith}
 use native.Mathlib.Numerals.{add-one}
 use lib.Dec.{eqb}
@@ -14,6 +14,11 @@ use Rattle.table.proofs.Branch.{yes, nay, and-left, or-left}
 use Rattle.definition.specs.Row.{Row, void, kindOf, targetOf, rowName}
 use Rattle.definition.specs.Table.{Table, rowAt}
 use Rattle.definition.specs.Types.{rowNamed, isAlias, resolveWithin}
+use Rattle.definition.specs.Limit.{maxRows}
+use Rattle.definition.specs.Lent.{wordsLength}
+use Rattle.table.specs.Held.{InWords}
+use Rattle.table.proofs.Columns.{row-read}
+use Rattle.table.proofs.Regions.{words-long}
 
 -- the first row that passes a test, the rows being numbered from n
 unfoldable pub firstRow : (ℕ → Row → Bool) → ℕ → List Row → Option ℕ
@@ -73,9 +78,32 @@ module _ (x : Row) (k : ℕ) (k-is : k ≡ kindOf x) where
   unfolding isAlias
   alias-second q = sym (ap (λ b. b || eqb (kindOf x) 11) (ne-eqb (kindOf x) 10 (λ e. q (k-is ∙ e))) ∙ ap (λ z. eqb z 11) (sym k-is))
 
-  module _ (kind name n : ℕ) where
-    pub named-no : (k ≡ kind → ⊥) → false ≡ namedTest kind name n x
-    named-no q = sym (and-left (eqb (rowName x) name) (ne-eqb (kindOf x) kind (λ e. q (k-is ∙ e))))
+and-false : (b : Bool) → false ≡ (b && false)
+and-false true = refl
+and-false false = refl
 
-    pub named-so : (m : ℕ) → m ≡ rowName x → k ≡ kind → eqb m name ≡ namedTest kind name n x
-    named-so m m-is q = sym (ap (λ b. b && eqb (rowName x) name) (eq-eqb (kindOf x) kind (sym k-is ∙ q)) ∙ ap (λ z. eqb z name) (sym m-is))
+and-true : (b : Bool) → b ≡ (b && true)
+and-true true = refl
+and-true false = refl
+
+-- a row's numbers as they stand in the slice
+module _ {t : Table} {w : List ℕ} (h : InWords t w) (i : ℕ) (p : i < maxRows) where
+  pub kind-is : getD w (6 * i) 0 ≡ kindOf (rowAt t i)
+  kind-is = row-read {b = 6 * i} (record { is = refl }) h i 0 p (omega arith) (omega arith)
+
+  pub target-is : getD w (6 * i + 1) 0 ≡ targetOf (rowAt t i)
+  target-is = row-read {b = 6 * i + 1} (record { is = refl }) h i 1 p (omega arith) refl
+
+  pub name-is : getD w (6 * i + 3) 0 ≡ rowName (rowAt t i)
+  name-is = row-read {b = 6 * i + 3} (record { is = refl }) h i 3 p (omega arith) refl
+
+  module _ (kind name : ℕ) where
+    pub other-name : (getD w (6 * i + 3) 0 ≡ name → ⊥) → false ≡ namedTest kind name i (rowAt t i)
+    other-name q = and-false (eqb (kindOf (rowAt t i)) kind) ∙ sym (ap (λ b. eqb (kindOf (rowAt t i)) kind && b) (ne-eqb (rowName (rowAt t i)) name (λ e. q (name-is ∙ e))))
+
+    pub same-name : getD w (6 * i + 3) 0 ≡ name → eqb (getD w (6 * i) 0) kind ≡ namedTest kind name i (rowAt t i)
+    same-name q = ap (λ z. eqb z kind) kind-is ∙ (and-true (eqb (kindOf (rowAt t i)) kind) ∙ sym (ap (λ b. eqb (kindOf (rowAt t i)) kind && b) (eq-eqb (rowName (rowAt t i)) name (sym name-is ∙ q))))
+
+-- a slice that holds a table has all rows
+pub all-rows : {t : Table} {w : List ℕ} → InWords t w → length w < 6144 → ⊥
+all-rows {t} {w} h p = let e : length w ≡ wordsLength = rw (h .are) (words-long t (h .fits)) in omega arith

@@ -1,15 +1,18 @@
 // Rows looked through and found by name.
 use table::Cursor;
+use table::MEMBERS_AT;
 use table::Numbers;
+use table::ROW_WORDS;
 use table::Step;
 use table::push_row;
 use table::row_kind;
-use table::row_name;
 use table::row_target;
 ghost use mathlib.Core.Path.{_≡_};
 ghost use mathlib.Core.Bool.{_&&_};
-ghost use Prim.Native.Nat.{ℕ};
+ghost use Prim.Native.Nat.{ℕ, _≤_, _<_};
 ghost use lib.Dec.{eqb};
+ghost use lib.ListN.{length};
+ghost use Rattle.definition.specs.Limit.{maxRows};
 ghost use Rattle.definition.specs.Row.{compositeKind, kindOf, rowName};
 ghost use Rattle.definition.specs.Table.{rowAt};
 ghost use Rattle.definition.specs.Types.{rowNamed, typedefRow, compositeRow, enumRow, isAlias, resolve, resolvedKind};
@@ -43,6 +46,9 @@ pub const FUNCTION: u32 = 9;
 pub const TYPEDEF: u32 = 10;
 
 pub const QUALIFIED: u32 = 11;
+
+// Where the name stands among the numbers of a row.
+const ROW_NAME: usize = 3;
 
 // "`resolve` looks through at most 64 typedefs and qualifiers"
 pub const MAX_RESOLVE: u32 = 64;
@@ -86,27 +92,32 @@ pub fn resolved_kind(w: &[u32], n: u32) -> u32
     row_kind(w, resolve(w, n))
 }
 
-// Row n is of a kind and a name.
-fn is_named(w: &[u32], n: u32, kind: u32, name: u32) -> bool
-    ensures { λ r. ⌜ Says (λ t. eqb (kindOf (rowAt t n)) kind && eqb (rowName (rowAt t n)) name) (now (w .entry)) r ⌝ }
+// Row i is of a kind and a name, in a slice that has all rows. Few rows have the name, so it is compared first.
+fn is_named(w: &[u32], i: usize, kind: u32, name: u32) -> bool
+    requires { ⌜ i < maxRows ⌝ }
+    requires { ⌜ 6144 ≤ length (now w) ⌝ }
+    ensures { λ r. ⌜ Says (λ t. eqb (kindOf (rowAt t i)) kind && eqb (rowName (rowAt t i)) name) (now (w .entry)) r ⌝ }
 {
-    if row_kind(w, n) != kind {
+    let at = ROW_WORDS * i;
+    if w[at + ROW_NAME] != name {
         return false;
     }
-    row_name(w, n) == name
+    w[at] == kind
 }
 
-// The first row of a kind and a name.
+// The first row of a kind and a name. A slice shorter than all rows holds no table.
 pub fn row_named(w: &[u32], c: Cursor, kind: u32, name: u32) -> Found
     requires { ⌜ Room c ⌝ }
     ensures { λ r. ⌜ Finds (λ t. rowNamed kind name 0 (t .rows)) c (now (w .entry)) r ⌝ }
 {
+    if w.len() < MEMBERS_AT {
+        return Found::Nothing;
+    }
     let rows = c.rows;
     let mut i = 0;
     while i < rows {
-        let n = i as u32;
-        if is_named(w, n, kind, name) {
-            return Found::At(n);
+        if is_named(w, i, kind, name) {
+            return Found::At(i as u32);
         }
         i = i + 1;
     }

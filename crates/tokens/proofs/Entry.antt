@@ -1,21 +1,21 @@
 -- What the entry answers. Assumes nothing.
 use mathlib.Core.Path.{_≡_, sym, ap, _∙_}
 use mathlib.Core.Bool.{true, false, _||_}
-use mathlib.Core.List.{List, map}
+use mathlib.Core.List.{List}
 use Prim.Native.Nat.{ℕ, _≤_, _<_}
 use native.Mathlib.Omega.{arith}
 use borrow.Author.Tests.{lt-ltb, le-ltb}
 use lib.Dec.{ltb}
 use lib.ListN.{length, replicate, length-replicate, length-map}
-use Rattle.definition.specs.Answer.{got, refused}
+use Rattle.definition.specs.Answer.{Answer, got, refused}
 use Rattle.definition.specs.Text.{Bytes, byteAt}
 use Rattle.definition.specs.Scan.{from, before}
-use Rattle.definition.specs.Token.{Token, columns}
+use Rattle.definition.specs.Token.{Lexed, columns}
 use Rattle.definition.specs.Cut.{Cutting, cut, aboveAscii, checkBytes, tokenize}
 use Rattle.scan.proofs.Branch.{yes!, nay!, lt+, lt-, either-first, either-second, neither}
 use Rattle.scan.proofs.Going.{first-from}
 use Rattle.cutting.proofs.Steps.{via, halt}
-use Rattle.tokens.specs.Columns.{padded, out, shown, short, answered, Holds, Zero, Fills, done, stop}
+use Rattle.tokens.specs.Columns.{padded, out, shown, short, answered, RoomIf, Zero, Fills, Lexes}
 use Rattle.tokens.specs.declared.Lexing.{Lexing}
 use Rattle.tokens.specs.declared.Lexing.the-variants.{Done, Refused}
 
@@ -66,6 +66,10 @@ module _ (k p n : ℕ) where
   unfolding short
   long a b c = neither (le-ltb k 32768 a) (neither (le-ltb p 32768 b) (le-ltb n 32768 c))
 
+-- columns for any text that is not too long
+pub room-if : (text : Bytes) (ks ps ns : List ℕ) → 32768 ≤ length ks → 32768 ≤ length ps → 32768 ≤ length ns → RoomIf text ks ps ns
+room-if text ks ps ns a b c = record { run = λ h. record { fits = h; kinds = omega arith; places = omega arith; numbers = omega arith } }
+
 zero-long : (l : List ℕ) (n : ℕ) → l ≡ replicate n 0 → length l ≡ n
 zero-long l n e = ap (λ (x : List ℕ). length x) e ∙ length-replicate n 0
 
@@ -80,54 +84,34 @@ module _ (text : Bytes) (ks ps ns ks′ ps′ ns′ : List ℕ) where
   bad-call h z = zeros-shown 1 0 z ∙ sym (yes! (short (length ks) (length ps) (length ns)) _ _ h)
 
   module _ (h : short (length ks) (length ps) (length ns) ≡ false) where
-    filled : (ts : List Token) → Holds ts ks′ ps′ ns′ → length ks′ ≡ length ks → length ps′ ≡ length ps → length ns′ ≡ length ns
-        → out (Done (length ts)) ks′ ps′ ns′ ≡ shown (length ks) (length ps) (length ns) (got (columns ts (length text)))
-    unfolding shown columns
-    filled ts g a b c =
-        let x : ks′ ≡ padded (length ks) (map (λ t. t .kind) ts) = g .kinds ∙ ap (λ (i : ℕ). padded i (map (λ t. t .kind) ts)) a in
-        let y : ps′ ≡ padded (length ps) (map (λ t. t .place) ts) = g .places ∙ ap (λ (i : ℕ). padded i (map (λ t. t .place) ts)) b in
-        let z : ns′ ≡ padded (length ns) (map (λ t. t .number) ts) = g .numbers ∙ ap (λ (i : ℕ). padded i (map (λ t. t .number) ts)) c in
-        let l = length-map ts (λ t. t .place) in
-        ap (λ (i : ℕ). out (Done i) ks′ ps′ ns′) (sym l)
-        ∙ (ap (λ (i : List ℕ). out (Done (length (map (λ t. t .place) ts))) i ps′ ns′) x
-        ∙ (ap (λ (i : List ℕ). out (Done (length (map (λ t. t .place) ts))) (padded (length ks) (map (λ t. t .kind) ts)) i ns′) y
-        ∙ ap (λ (i : List ℕ). out (Done (length (map (λ t. t .place) ts))) (padded (length ks) (map (λ t. t .kind) ts)) (padded (length ps) (map (λ t. t .place) ts)) i) z))
-
-    pub turned-down : (m at : ℕ) → tokenize text ≡ refused m at → Zero ks ps ns ks′ ps′ ns′ → out (Refused m at) ks′ ps′ ns′ ≡ answered text (length ks) (length ps) (length ns)
+    says : (a : Answer Lexed) → tokenize text ≡ a → shown (length ks) (length ps) (length ns) a ≡ answered text (length ks) (length ps) (length ns)
     unfolding answered
-    turned-down m at e z = zeros-shown m at z ∙ (ap (shown (length ks) (length ps) (length ns)) (sym e) ∙ sym (nay! (short (length ks) (length ps) (length ns)) _ _ h))
+    says a e = ap (shown (length ks) (length ps) (length ns)) (sym e) ∙ sym (nay! (short (length ks) (length ps) (length ns)) _ _ h)
 
-    pub accepted : (ts : List Token) → tokenize text ≡ got (columns ts (length text)) → Holds ts ks′ ps′ ns′ → length ks′ ≡ length ks → length ps′ ≡ length ps → length ns′ ≡ length ns
-        → out (Done (length ts)) ks′ ps′ ns′ ≡ answered text (length ks) (length ps) (length ns)
-    unfolding answered
-    accepted ts e g a b c = filled ts g a b c ∙ (ap (shown (length ks) (length ps) (length ns)) (sym e) ∙ sym (nay! (short (length ks) (length ps) (length ns)) _ _ h))
+    module _ (r : Lexing) (x y w : List ℕ) where
+      -- cleared after a refusal
+      pub all-refused : Lexes (tokenize text) r x y w → (m p : ℕ) → r ≡ Refused m p → Zero ks ps ns ks′ ps′ ns′ → out (Refused m p) ks′ ps′ ns′ ≡ answered text (length ks) (length ps) (length ns)
+      all-refused (Lexes.done t e q i j k) m p f z = let u : _≡_ {A = ℕ} 0 1 = cc in absurd (omega arith)
+      all-refused (Lexes.stop n a e q) m p f z = let u : n ≡ m = cc in let v : a ≡ p = cc in zeros-shown m p z ∙ says (refused m p) (rw (u, v) at e)
 
--- what the loop left
-module _ (text : Bytes) (ks ps ns : List ℕ) (r : Lexing) where
-  pub fills-refused : (m p : ℕ) → Fills text r ks ps ns → r ≡ Refused m p → cut text ≡ refused m p
-  fills-refused m p (done s e q h) f = let x : Done (length (s .tokens)) ≡ Refused m p = sym q ∙ f in let y : _≡_ {A = ℕ} 0 1 = cc in absurd (omega arith)
-  fills-refused m p (stop n a e q) f = let x : Refused n a ≡ Refused m p = sym q ∙ f in let y : n ≡ m = cc in let z : a ≡ p = cc in rw (y, z) at e
+    module _ (r : Lexing) (lk : length ks′ ≡ length ks) (lp : length ps′ ≡ length ps) (ln : length ns′ ≡ length ns) where
+      pub all-done : Lexes (tokenize text) r ks′ ps′ ns′ → (c : ℕ) → r ≡ Done c → out (Done c) ks′ ps′ ns′ ≡ answered text (length ks) (length ps) (length ns)
+      unfolding shown
+      all-done (Lexes.stop n a e q) c f = let u : _≡_ {A = ℕ} 0 1 = cc in absurd (omega arith)
+      all-done (Lexes.done t e q i j k) c f =
+          let u : c ≡ length (t .places) = cc in
+          let x : ks′ ≡ padded (length ks) (t .tokens .kinds) = i ∙ ap (λ (n : ℕ). padded n (t .tokens .kinds)) lk in
+          let y : ps′ ≡ padded (length ps) (t .places) = j ∙ ap (λ (n : ℕ). padded n (t .places)) lp in
+          let z : ns′ ≡ padded (length ns) (t .tokens .numbers) = k ∙ ap (λ (n : ℕ). padded n (t .tokens .numbers)) ln in
+          let v : out (Done c) ks′ ps′ ns′ ≡ shown (length ks) (length ps) (length ns) (got t) = cc in
+          v ∙ says (got t) e
 
-  pub record Filled (count : ℕ) : Type 0 where
-    pub all : Cutting
-    pub is : cut text ≡ got all
-    pub counts : count ≡ length (all .tokens)
-    pub holds : Holds (all .tokens) ks ps ns
-
-  pub fills-done : (c : ℕ) → Fills text r ks ps ns → r ≡ Done c → Filled c
-  fills-done c (done s e q h) f = let x : Done c ≡ Done (length (s .tokens)) = sym f ∙ q in record { all = s; is = e; counts = cc; holds = h }
-  fills-done c (stop n a e q) f = let x : Done c ≡ Refused n a = sym f ∙ q in let y : _≡_ {A = ℕ} 0 1 = cc in absurd (omega arith)
-
--- the whole, after the columns were found long enough and the text well
-module _ (text : Bytes) (ks ps ns ks′ ps′ ns′ : List ℕ) (h : short (length ks) (length ps) (length ns) ≡ false) (fits : length text ≤ 32768) (n : ℕ) (e : n ≡ before aboveAscii text)
-    (ascii : length text ≤ n) (r : Lexing) (f : Fills text r ks′ ps′ ns′) where
-  pub all-refused : (m p : ℕ) → r ≡ Refused m p → (x y w : List ℕ) → Zero ks ps ns x y w → out (Refused m p) x y w ≡ answered text (length ks) (length ps) (length ns)
-  all-refused m p q x y w z = turned-down text ks ps ns x y w h m p (cut-refused text fits n e ascii m p (fills-refused text ks′ ps′ ns′ r m p f q)) z
-
-  pub all-done : (c : ℕ) → r ≡ Done c → length ks′ ≡ length ks → length ps′ ≡ length ps → length ns′ ≡ length ns → out (Done c) ks′ ps′ ns′ ≡ answered text (length ks) (length ps) (length ns)
-  all-done c q i j k =
-      let g = fills-done text ks′ ps′ ns′ r c f q in
-      ap (λ (x : ℕ). out (Done x) ks′ ps′ ns′) (g .counts) ∙ accepted text ks ps ns ks′ ps′ ns′ h (g .all .tokens) (cut-got text fits n e ascii (g .all) (g .is)) (g .holds) i j k
+-- a text that is not too long and has no byte above 127, with what the loop left
+module _ (text : Bytes) (fits : length text ≤ 32768) (n : ℕ) (e : n ≡ before aboveAscii text) (ascii : length text ≤ n) {r : Lexing} {ks ps ns : List ℕ} where
+  pub filled : Fills text r ks ps ns → Lexes (tokenize text) r ks ps ns
+  unfolding columns
+  filled (Fills.done s q p h) = Lexes.done (columns (s .tokens) (length text)) (cut-got text fits n e ascii s q) (p ∙ ap (λ (i : ℕ). Done i) (sym (length-map (s .tokens) (λ t. t .place)))) (h .kinds) (h .places) (h .numbers)
+  filled (Fills.stop m at q p) = Lexes.stop m at (cut-refused text fits n e ascii m at q) p
 
 -- after the columns are cleared
 module _ (ks ps ns ks′ ps′ ns′ : List ℕ) (z : Zero ks ps ns ks′ ps′ ns′) where

@@ -4,8 +4,8 @@ use mathlib.Core.Bool.{Bool, true, false}
 use mathlib.Core.List.{List, [], _∷_, _++_, map, map-append, append-assoc}
 use Prim.Native.Nat.{ℕ, zero, suc, _+_, _-_, _≤_, _<_}
 use native.Mathlib.Omega.{arith}
-use lib.ListN.{length, getD, set, replicate, length-append, length-set, length-map, length-replicate}
-use lib.Seq.{set-at}
+use lib.ListN.{length, getD, set, take, drop, replicate, length-append, length-set, length-map, length-replicate}
+use lib.Seq.{set-at, getD-set-other}
 use Rattle.definition.specs.Answer.{Answer, got, refused}
 use Rattle.definition.specs.Text.{Bytes}
 use Rattle.definition.specs.Token.{Token}
@@ -15,14 +15,15 @@ use Rattle.cutting.specs.Pieces.{state, applied, CutsOn}
 use Rattle.cutting.specs.declared.Piece.{Piece}
 use Rattle.cutting.specs.declared.Piece.the-variants.{Skip, Token as Piece·Token, Name, Refused}
 use Rattle.cutting.proofs.Steps.{via, halt}
-use Rattle.tokens.specs.Columns.{padded, Holds, Fills, done, Room, Zero}
+use Rattle.tokens.specs.Columns.{padded, Holds, Fills, Room, Zero, Rest}
 use Rattle.definition.specs.Kind.{isName}
 use Rattle.chains.specs.Chain.{bare, Chained}
 use Rattle.chains.proofs.Kept.{chained-plain}
 use Rattle.chains.proofs.Steps.{bare-set}
 use Rattle.tokens.specs.Names.{Finds, Searches, Stores}
 use Rattle.definition.specs.Spelling.{knownName}
-use Rattle.tokens.specs.declared.Lexing.the-variants.{Done}
+use Rattle.tokens.specs.declared.Lexing.{Lexing}
+use Rattle.tokens.specs.declared.Lexing.the-variants.{Done, Refused as Lexing·Refused}
 use Rattle.tokens.specs.Going.{Going, Linked}
 use Rattle.tokens.proofs.Meeting.{plain-more, met}
 
@@ -186,7 +187,7 @@ go-start text ks ps ns z = record {
 
 pub go-done : (text : Bytes) (at : ℕ) (line : Bool) (count : ℕ) (ks ps ns : List ℕ) → Going text at line count ks ps ns (cut text) → length text ≤ at → Fills text (Done count) ks ps ns
 go-done text at line count ks ps ns g h =
-    done (state at line (g .tokens) (g .names)) (cut-ends text (g .rounds) (state at line (g .tokens) (g .names)) (cut text) (g .enough) (g .same) h) (ap (λ (n : ℕ). Done n) (g .counted)) (g .holds)
+    Fills.done (state at line (g .tokens) (g .names)) (cut-ends text (g .rounds) (state at line (g .tokens) (g .names)) (cut text) (g .enough) (g .same) h) (ap (λ (n : ℕ). Done n) (g .counted)) (g .holds)
 
 -- lengths that are kept
 long-set : (l l′ : List ℕ) (i v : ℕ) → l′ ≡ set l i v → length l′ ≡ length l
@@ -223,6 +224,29 @@ chained-start text ks ps ns heads n e = record {
   chain = λ j p q. absurd (omega arith);
 }
 
+-- no link stands after the last token
+zeros-rest : (ps : List ℕ) (n : ℕ) → ps ≡ replicate n 0 → (i : ℕ) → getD ps i 0 ≡ 0
+zeros-rest ps n e i = ap (λ (x : List ℕ). getD x i 0) e ∙ zeros-at n i
+
+rest-more : (ps ps′ : List ℕ) (count v : ℕ) → ((i : ℕ) → count ≤ i → getD ps i 0 ≡ 0) → ps′ ≡ set ps count v → (i : ℕ) → count + 1 ≤ i → getD ps′ i 0 ≡ 0
+rest-more ps ps′ count v h e i p = ap (λ (x : List ℕ). getD x i 0) e ∙ (getD-set-other ps count i v 0 (λ q. absurd (omega arith)) ∙ h i (omega arith))
+
+pub rest-done : (count : ℕ) (ps : List ℕ) → ((i : ℕ) → count ≤ i → getD ps i 0 ≡ 0) → Rest (Done count) ps
+rest-done count ps h = record { rest = λ c i e p. let q : count ≡ c = cc in h i (omega arith) }
+
+pub rest-refused : (n at : ℕ) (ps : List ℕ) → Rest (Lexing·Refused n at) ps
+rest-refused n at ps = record { rest = λ c i e p. let q : _≡_ {A = ℕ} 0 1 = cc in absurd (omega arith) }
+
+-- so the first places made bare are all of them
+bare-none : (ps : List ℕ) → ((i : ℕ) → getD ps i 0 ≡ 0) → ps ≡ map bare ps
+bare-none [] h = refl
+bare-none (x ∷ ps) h = rw (h 0) (ap (λ (l : List ℕ). 0 ∷ l) (bare-none ps (λ i. h (suc i))))
+
+pub bare-front : (count : ℕ) (ps : List ℕ) → ((i : ℕ) → count ≤ i → getD ps i 0 ≡ 0) → map bare (take count ps) ++ drop count ps ≡ map bare ps
+bare-front zero ps h = bare-none ps (λ i. h i (omega arith))
+bare-front (suc count) [] h = refl
+bare-front (suc count) (x ∷ ps) h = ap (λ (l : List ℕ). bare x ∷ l) (bare-front count ps (λ i p. h (suc i) (omega arith)))
+
 -- the loop with the links
 pub link-start : (text : Bytes) (ks ps ns heads : List ℕ) → Room text ks ps ns → Zero ks ps ns ks ps ns → heads ≡ replicate 4096 0 → Linked text 0 true 0 ks ps ns heads (cut text)
 link-start text ks ps ns heads room z e = record {
@@ -230,6 +254,7 @@ link-start text ks ps ns heads room z e = record {
   room = room;
   hashes = ap (λ (x : List ℕ). length x) e ∙ length-replicate {A = ℕ} 4096 0;
   chained = chained-start text ks ps ns heads 4096 e;
+  rest = λ i p. zeros-rest ps (length ps) (z .places) i;
 }
 
 module _ (text : Bytes) (at : ℕ) (line : Bool) (count : ℕ) (ks ps ns heads : List ℕ) (whole : Answer Cutting) (g : Linked text at line count ks ps ns heads whole)
@@ -241,7 +266,7 @@ module _ (text : Bytes) (at : ℕ) (line : Bool) (count : ℕ) (ks ps ns heads :
   link-refused = go-refused text at line count ks (map bare ps) ns whole (g .going) inside r cuts
 
   pub link-skip : (to : ℕ) (starts : Bool) → r ≡ Skip to starts → Linked text to starts count ks ps ns heads whole
-  link-skip to starts e = record { going = go-skip text at line count ks (map bare ps) ns whole (g .going) inside r cuts to starts e; room = g .room; hashes = g .hashes; chained = g .chained }
+  link-skip to starts e = record { going = go-skip text at line count ks (map bare ps) ns whole (g .going) inside r cuts to starts e; room = g .room; hashes = g .hashes; chained = g .chained; rest = g .rest }
 
   pub skip-on : (to : ℕ) (starts : Bool) → r ≡ Skip to starts → at < to
   skip-on = on-skip text at line count ks (map bare ps) ns whole (g .going) inside r cuts
@@ -271,6 +296,7 @@ module _ (text : Bytes) (at : ℕ) (line : Bool) (count : ℕ) (ks ps ns heads :
         room = room-kept text ks ps ns ks′ ps′ ns′ (g .room) (long-set ks ks′ count k a) (long-set ps ps′ count at b) (long-set ns ns′ count n c);
         hashes = g .hashes;
         chained = rw (a, b, c) (chained-plain text ks ps ns heads count k at n (g .chained) (w .1) (w .0) (w .2) (omega arith) (plain-token text at line count ks (map bare ps) ns whole (g .going) inside r cuts k n to e));
+        rest = rest-more ps ps′ count at (g .rest) b;
       }
 
   pub link-name : (k to : ℕ) (ks′ ps′ ns′ heads′ : List ℕ) → r ≡ Name k to → Stores text ks ps ns count k at to ks′ ps′ ns′ heads′ → length ps′ ≡ length ps → Linked text to false (count + 1) ks′ ps′ ns′ heads′ whole
@@ -279,4 +305,31 @@ module _ (text : Bytes) (at : ℕ) (line : Bool) (count : ℕ) (ks ps ns heads :
     room = room-kept text ks ps ns ks′ ps′ ns′ (g .room) (long-set ks ks′ count k (s .kinds)) l (long-set ns ns′ count (s .number) (s .numbers));
     hashes = s .hashes;
     chained = s .chained;
+    rest = rest-more ps ps′ count (s .linked) (g .rest) (s .raw);
   }
+
+-- the places alone, after the loop
+module _ {text : Bytes} {r : Lexing} {ks ps ns : List ℕ} (f : Fills text r ks (map bare ps) ns) (z : Rest r ps) where
+  pub fill-count : (c : ℕ) → r ≡ Done c → c ≤ length ps
+  unfolding padded
+  fill-count c e = go f
+    where
+      go : Fills text r ks (map bare ps) ns → c ≤ length ps
+      go (Fills.stop n p q w) = let y : _≡_ {A = ℕ} 0 1 = cc in absurd (omega arith)
+      go (Fills.done s q w h) =
+          let y : c ≡ length (s .tokens) = cc in
+          let xs = map (λ t. t .place) (s .tokens) in
+          let l : length (map bare ps) ≡ length (xs ++ replicate (length (map bare ps) - length xs) 0) = ap (λ (x : List ℕ). length x) (h .places) in
+          let m : length xs ≡ length (s .tokens) = length-map (s .tokens) (λ t. t .place) in
+          let k : length (map bare ps) ≡ length ps = length-map ps bare in
+          omega (arith, l, m, k, y, length-append xs (replicate (length (map bare ps) - length xs) 0))
+
+  pub fill-done : (c : ℕ) → r ≡ Done c → (ps′ : List ℕ) → ps′ ≡ map bare (take c ps) → Fills text (Done c) ks (ps′ ++ drop c ps) ns
+  fill-done c e ps′ q = rw (ap (λ (x : List ℕ). x ++ drop c ps) q ∙ bare-front c ps (λ i p. z .rest c i e p), ← e) f
+
+  pub fill-refused : (n p : ℕ) → r ≡ Lexing·Refused n p → (ps′ : List ℕ) → Fills text (Lexing·Refused n p) ks ps′ ns
+  fill-refused n p e ps′ = go f
+    where
+      go : Fills text r ks (map bare ps) ns → Fills text (Lexing·Refused n p) ks ps′ ns
+      go (Fills.stop m at q w) = Fills.stop n p (q ∙ (let y : m ≡ n = cc in let u : at ≡ p = cc in rw (y, u))) refl
+      go (Fills.done s q w h) = let y : _≡_ {A = ℕ} 0 1 = cc in absurd (omega arith)

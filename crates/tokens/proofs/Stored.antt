@@ -60,6 +60,8 @@ module _ (text : Bytes) (ks ps ns heads : List ℕ) (count at end : ℕ) (s : Se
             number = r;
             finds = found j p e q;
             kinds = a;
+            linked = at;
+            raw = b;
             places = ap (λ (x : List ℕ). map bare x) b ∙ bare-set ps count at at (omega arith);
             numbers = c;
             hashes = ap (λ (x : List ℕ). length x) d ∙ s .hashes;
@@ -80,6 +82,8 @@ module _ (text : Bytes) (ks ps ns heads : List ℕ) (count at end : ℕ) (s : Se
             number = n;
             finds = fresh (nowhere (walked on) z) y;
             kinds = a;
+            linked = v;
+            raw = b;
             places = ap (λ (i : List ℕ). map bare i) b ∙ bare-set ps count v at (omega arith);
             numbers = c;
             hashes = ap (λ (i : List ℕ). length i) d ∙ (length-set heads h (count + 1) ∙ s .hashes);

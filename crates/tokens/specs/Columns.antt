@@ -4,7 +4,7 @@ use mathlib.Core.Bool.{Bool, true, false, _||_}
 use mathlib.Core.List.{List, [], _++_, map}
 use Prim.Native.Nat.{ℕ, _-_, _≤_}
 use lib.Dec.{ltb}
-use lib.ListN.{length, replicate}
+use lib.ListN.{length, getD, replicate}
 use Rattle.definition.specs.Answer.{Answer, got, refused}
 use Rattle.definition.specs.Refusal.{badCall}
 use Rattle.definition.specs.Limit.{maxText}
@@ -49,12 +49,16 @@ pub record Holds (ts : List Token) (ks ps ns : List ℕ) : Type 0 where
   pub places : ps ≡ padded (length ps) (placesOf ts)
   pub numbers : ns ≡ padded (length ns) (numbersOf ts)
 
--- long enough for a text that is not too long
+-- a text that is not too long, and an entry for each byte of it
 pub record Room (text : Bytes) (ks ps ns : List ℕ) : Type 0 where
   pub fits : length text ≤ maxText
-  pub kinds : maxText ≤ length ks
-  pub places : maxText ≤ length ps
-  pub numbers : maxText ≤ length ns
+  pub kinds : length text ≤ length ks
+  pub places : length text ≤ length ps
+  pub numbers : length text ≤ length ns
+
+-- the same where the text may be too long
+pub record RoomIf (text : Bytes) (ks ps ns : List ℕ) : Type 0 where
+  pub run : length text ≤ maxText → Room text ks ps ns
 
 -- all zero
 pub record Zero (ks ps ns ks′ ps′ ns′ : List ℕ) : Type 0 where
@@ -62,7 +66,17 @@ pub record Zero (ks ps ns ks′ ps′ ns′ : List ℕ) : Type 0 where
   pub places : ps′ ≡ replicate (length ps) 0
   pub numbers : ns′ ≡ replicate (length ns) 0
 
--- what the loop leaves: the columns are cleared afterwards where it refused
+-- what the loop leaves: nothing is said of the columns where it refused
 pub data Fills (text : Bytes) (r : Lexing) (ks ps ns : List ℕ) : Type 0 where
   done : (s : Cutting) → cut text ≡ got s → r ≡ Done (length (s .tokens)) → Holds (s .tokens) ks ps ns → Fills text r ks ps ns
   stop : (n p : ℕ) → cut text ≡ refused n p → r ≡ Refused n p → Fills text r ks ps ns
+
+-- nothing stands after the last place, no link either
+pub record Rest (r : Lexing) (ps : List ℕ) : Type 0 where
+  pub rest : (count i : ℕ) → r ≡ Done count → count ≤ i → getD ps i 0 ≡ 0
+
+-- the definition's answer, in columns of any length: the tokens with zeros after them, and nothing said of the columns on a refusal
+pub data Lexes (a : Answer Lexed) (r : Lexing) (ks ps ns : List ℕ) : Type 0 where
+  done : (x : Lexed) → a ≡ got x → r ≡ Done (length (x .places))
+      → ks ≡ padded (length ks) (x .tokens .kinds) → ps ≡ padded (length ps) (x .places) → ns ≡ padded (length ns) (x .tokens .numbers) → Lexes a r ks ps ns
+  stop : (n p : ℕ) → a ≡ refused n p → r ≡ Refused n p → Lexes a r ks ps ns

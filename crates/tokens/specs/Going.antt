@@ -3,7 +3,7 @@ use mathlib.Core.Path.{_≡_}
 use mathlib.Core.Bool.{Bool}
 use mathlib.Core.List.{List, map}
 use Prim.Native.Nat.{ℕ, _-_, _≤_, _<_}
-use lib.ListN.{length}
+use lib.ListN.{length, getD}
 use Rattle.definition.specs.Answer.{Answer}
 use Rattle.definition.specs.Text.{Bytes}
 use Rattle.definition.specs.Token.{Token}
@@ -31,3 +31,4 @@ pub record Linked (text : Bytes) (at : ℕ) (line : Bool) (count : ℕ) (ks ps n
   pub room : Room text ks ps ns
   pub hashes : length heads ≡ 4096
   pub chained : Chained text ks ps ns heads count
+  pub rest : (i : ℕ) → count ≤ i → getD ps i 0 ≡ 0

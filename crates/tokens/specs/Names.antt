@@ -31,11 +31,13 @@ pub data Finds (text : Bytes) (ks ns : List ℕ) (count at end r : ℕ) : Type 0
   found : (j : ℕ) → j < count → isNameOf text (take (end - at) (from text at)) (getD ks j 0) (getD ns j 0) ≡ true → r ≡ getD ns j 0 → Finds text ks ns count at end r
   fresh : ((j : ℕ) → j < count → isNameOf text (take (end - at) (from text at)) (getD ks j 0) (getD ns j 0) ≡ false) → r ≡ nameOf at (end - at) → Finds text ks ns count at end r
 
--- a name is stored: the places are those beside the links
+-- a name is stored: the places are those beside the links, which change at this token alone
 pub record Stores (text : Bytes) (ks ps ns : List ℕ) (count kind at end : ℕ) (ks′ ps′ ns′ heads′ : List ℕ) : Type 0 where
   pub number : ℕ
   pub finds : Finds text ks ns count at end number
   pub kinds : ks′ ≡ set ks count kind
+  pub linked : ℕ
+  pub raw : ps′ ≡ set ps count linked
   pub places : map bare ps′ ≡ set (map bare ps) count at
   pub numbers : ns′ ≡ set ns count number
   pub hashes : length heads′ ≡ 4096

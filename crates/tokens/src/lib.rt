@@ -15,9 +15,9 @@ ghost use mathlib.Core.List.{map};
 ghost use Prim.Native.Nat.{ℕ, _<_};
 ghost use lib.ListN.{length, set};
 ghost use Rattle.definition.specs.Scan.{before};
-ghost use Rattle.definition.specs.Cut.{aboveAscii};
+ghost use Rattle.definition.specs.Cut.{aboveAscii, tokenize};
 ghost use Rattle.chains.specs.Chain.{bare};
-ghost use Rattle.tokens.specs.Columns.{out, answered, Room, Zero, Fills};
+ghost use Rattle.tokens.specs.Columns.{out, answered, Room, RoomIf, Zero, Fills, Rest, Lexes};
 ghost use Rattle.tokens.specs.Names.{Searches, Stores};
 
 pub const MAX_TEXT: usize = 32768;
@@ -113,6 +113,7 @@ fn cut_all(text: &[u8], kinds: &mut [u32], places: &mut [u32], numbers: &mut [u6
     requires { ⌜ Room (now text) (now kinds) (now places) (now numbers) ⌝ }
     requires { ⌜ Zero (now kinds) (now places) (now numbers) (now kinds) (now places) (now numbers) ⌝ }
     ensures { λ r. ⌜ Fills (now (text .entry)) r (now (kinds .exit)) (map bare (now (places .exit))) (now (numbers .exit)) ⌝ }
+    ensures { λ r. ⌜ Rest r (now (places .exit)) ⌝ }
 {
     let mut heads = [0u32; HEADS];
     let mut at = 0;
@@ -153,8 +154,29 @@ fn fill(text: &[u8], kinds: &mut [u32], places: &mut [u32], numbers: &mut [u64])
     ensures { λ r. ⌜ Fills (now (text .entry)) r (now (kinds .exit)) (now (places .exit)) (now (numbers .exit)) ⌝ }
 {
     let r = cut_all(text, kinds, places, numbers);
-    bare(places);
-    r
+    match r {
+        Lexing::Done(count) => {
+            bare(&mut places[..count]);
+            Lexing::Done(count)
+        }
+        Lexing::Refused(number, offset) => Lexing::Refused(number, offset),
+    }
+}
+
+// The tokens of a text, in columns of zeros with an entry for each byte of it, so that a short text asks for no long ones. A refusal clears nothing.
+pub fn lex(text: &[u8], kinds: &mut [u32], places: &mut [u32], numbers: &mut [u64]) -> Lexing
+    requires { ⌜ RoomIf (now text) (now kinds) (now places) (now numbers) ⌝ }
+    requires { ⌜ Zero (now kinds) (now places) (now numbers) (now kinds) (now places) (now numbers) ⌝ }
+    ensures { λ r. ⌜ Lexes (tokenize (now (text .entry))) r (now (kinds .exit)) (now (places .exit)) (now (numbers .exit)) ⌝ }
+{
+    if MAX_TEXT < text.len() {
+        return Lexing::Refused(TEXT_TOO_LONG, 0);
+    }
+    let n = ascii_end(text);
+    if n < text.len() {
+        return Lexing::Refused(NOT_ASCII, n);
+    }
+    fill(text, kinds, places, numbers)
 }
 
 // The tokens of a text, in columns of 32,768 entries at least; zeros stand after them, and everywhere on a refusal.
@@ -171,14 +193,7 @@ pub fn tokenize(text: &[u8], kinds: &mut [u32], places: &mut [u32], numbers: &mu
     if numbers.len() < MAX_TEXT {
         return Lexing::Refused(BAD_CALL, 0);
     }
-    if MAX_TEXT < text.len() {
-        return Lexing::Refused(TEXT_TOO_LONG, 0);
-    }
-    let n = ascii_end(text);
-    if n < text.len() {
-        return Lexing::Refused(NOT_ASCII, n);
-    }
-    let r = fill(text, kinds, places, numbers);
+    let r = lex(text, kinds, places, numbers);
     match r {
         Lexing::Done(count) => Lexing::Done(count),
         Lexing::Refused(number, offset) => {

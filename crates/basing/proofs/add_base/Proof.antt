@@ -3,7 +3,7 @@ use Rattle.basing.proofs.add_base.Statement.{statement}
 use Rattle.basing.proofs.add_base.Tie as tie
 use Rattle.basing.proofs.add_base.Reads as reads
 use Rattle.basing.proofs.add_base.Lts as lts
-use Rattle.types.proofs.add_row.Reads as add-row-reads
+use Rattle.interning.proofs.add_row.Reads as add-row-reads
 use Rattle.basing.proofs.Named.{plain-numbers}
 
 add-row-requires : tie.Need-add-row-requires

@@ -6,17 +6,7 @@ use Rattle.entry.proofs.read_with.Lts as lts
 use Rattle.clearing.proofs.clear.Reads as clear-reads
 use Rattle.entry.proofs.read_front.Reads as read-front-reads
 use Rattle.entry.proofs.reject.Reads as reject-reads
-use native.Mathlib.Omega.{arith}
-use mathlib.Core.Path.{_≡_, refl, sym, ap, _∙_}
-use mathlib.Core.List.{List}
-use Prim.Native.Nat.{ℕ, _≤_, _<_}
-use lib.ListN.{length}
-use Rattle.laws.proofs.Columns.{columns-short}
-use Rattle.table.proofs.Shown.{held}
-use Rattle.entry.proofs.Parsing.{here-end, here-token, header-done, header-refused, one-done, one-too-many, one-refused, kept-words, read-done, read-refused}
-use Rattle.words.specs.Meaning.{modelFound}
-use Rattle.entry.proofs.Telling.{lexes, lexes-no, text-columns, text-done, text-refused, front-fresh, front-leaves, reject-is, short-words, short-wides, short-signeds, tells-done, tells-refused, answer-known, answer-unknown}
-use lib.Seq.{length-take-le}
+use Rattle.entry.proofs.Telling.{short-words, short-wides, short-signeds, tells-done, tells-untouched, tells-refused}
 
 reject-requires : tie.Need-reject-requires
 reject-requires c κs = search needs
@@ -45,11 +35,17 @@ enum-known-r c = search needs
 enum-known-r-2 : tie.Need-enum-known-r-2
 enum-known-r-2 c = search needs
 
+reject-requires-4 : tie.Need-reject-requires-4
+reject-requires-4 c κs = search needs
+
+enum-known-r-3 : tie.Need-enum-known-r-3
+enum-known-r-3 c = search needs
+
 clear-requires : tie.Need-clear-requires
 clear-requires c κs = search needs
 
-reject-requires-4 : tie.Need-reject-requires-4
-reject-requires-4 c κs = search needs
+reject-requires-5 : tie.Need-reject-requires-5
+reject-requires-5 c κs = search needs
 
 same-length : tie.Need-same-length
 same-length c = search needs
@@ -73,7 +69,19 @@ same-length-6 : tie.Need-same-length-6
 same-length-6 c = search needs
 
 returns-5 : tie.Need-returns-5
-returns-5 c = tells-refused _ _ _ _ _ _ (record { words = c .before .before .before .before .before .before .before .before .before .before .before .before .before .before .before .before .before .before .before .before .before .before .before .before .if1 .left; wides = c .before .before .before .before .before .before .before .before .before .before .before .before .before .before .before .before .before .before .before .before .before .before .before .if2 .left; signeds = c .before .before .before .before .before .before .before .before .before .before .before .before .before .before .before .before .before .before .before .before .before .before .if3 .left }) _ _ _ _ (c .before .before .before .before .before .before .before .before .before .before .before .before .before .before .before .before .before .before .read-front .ensures) _ _ _ _ _ _ (c .before .before .before .before .before .before .before .before .before .before .before .r2 .given .1) (search needs) (search needs) (search needs) (c .before .before .before .before .before .before .clear .ensures) (c .reject4 .ensures)
+returns-5 c = tells-untouched _ _ _ _ _ _ (record { words = c .before .before .before .before .before .before .before .before .before .before .before .before .before .before .before .if1 .left; wides = c .before .before .before .before .before .before .before .before .before .before .before .before .before .before .if2 .left; signeds = c .before .before .before .before .before .before .before .before .before .before .before .before .before .if3 .left }) _ _ _ _ (c .before .before .before .before .before .before .before .before .before .read-front .ensures) _ _ _ (c .before .before .r2 .given .1) (c .reject4 .ensures)
+
+same-length-7 : tie.Need-same-length-7
+same-length-7 c = search needs
+
+same-length-8 : tie.Need-same-length-8
+same-length-8 c = search needs
+
+same-length-9 : tie.Need-same-length-9
+same-length-9 c = search needs
+
+returns-6 : tie.Need-returns-6
+returns-6 c = tells-refused _ _ _ _ _ _ (record { words = c .before .before .before .before .before .before .before .before .before .before .before .before .before .before .before .before .before .before .before .before .before .before .before .before .if1 .left; wides = c .before .before .before .before .before .before .before .before .before .before .before .before .before .before .before .before .before .before .before .before .before .before .before .if2 .left; signeds = c .before .before .before .before .before .before .before .before .before .before .before .before .before .before .before .before .before .before .before .before .before .before .if3 .left }) _ _ _ _ (c .before .before .before .before .before .before .before .before .before .before .before .before .before .before .before .before .before .before .read-front .ensures) _ _ _ _ _ _ (c .before .before .before .before .before .before .before .before .before .before .before .r3 .given .1) (search needs) (search needs) (search needs) (c .before .before .before .before .before .before .clear .ensures) (c .reject5 .ensures)
 
 pub read-with-spec : {M : Type 1} → statement M
 read-with-spec =
@@ -88,8 +96,10 @@ read-with-spec =
     read-front-requires
     enum-known-r
     enum-known-r-2
-    clear-requires
     reject-requires-4
+    enum-known-r-3
+    clear-requires
+    reject-requires-5
     same-length
     same-length-2
     same-length-3
@@ -97,4 +107,8 @@ read-with-spec =
     same-length-4
     same-length-5
     same-length-6
-    returns-5)
+    returns-5
+    same-length-7
+    same-length-8
+    same-length-9
+    returns-6)

@@ -27,13 +27,13 @@ use Rattle.definition.specs.NameTable.{heldNames}
 use Rattle.names.proofs.Holding.{all-struck, named}
 
 abbrev Inv-loop : tie.InvT-loop
-Inv-loop kinds places numbers listed₀ i₀ listed i = (i ≤ length kinds) × ((length listed ≡ 32768) × ListedTo kinds places numbers listed i)
+Inv-loop kinds places numbers listed₀ i₀ listed i = (i ≤ length kinds) × ((length listed ≡ length listed₀) × ListedTo kinds places numbers listed i)
 
 abbrev μ-loop : tie.MeasureT-loop
 μ-loop kinds places numbers listed₀ i₀ listed i = length kinds - i
 
 loop-holds : tie.Need-loop-holds Inv-loop μ-loop
-loop-holds c = (omega arith, (c .before .before .before .before .pre .1, list-none))
+loop-holds c = (omega arith, (refl, list-none))
 
 mul-number : tie.Need-mul-number Inv-loop μ-loop
 mul-number c = search needs
@@ -66,7 +66,7 @@ mul-listed : tie.Need-mul-listed Inv-loop μ-loop
 mul-listed c = omega (arith, c .before .before .before .before .before .before .before .before .before .before .before .pre .0 .within (c .before .before .before .before .before .before .loop .i) (c .before .before .before .before .before .loop-test .taken))
 
 slice-write-listed : tie.Need-slice-write-listed Inv-loop μ-loop
-slice-write-listed c = omega (arith, c .before .before .before .before .before .before .before .before .before .before .before .pre .0 .within (c .before .before .before .before .before .before .loop .i) (c .before .before .before .before .before .loop-test .taken), c .before .before .before .before .before .before .loop .inv .1 .0)
+slice-write-listed c = omega (arith, c .before .before .before .before .before .before .before .before .before .before .before .pre .1 .at (c .before .before .before .before .before .before .loop .i) (omega (arith, c .before .before .before .before .before .before .before .before .before .before .before .pre .0 .places)), c .before .before .before .before .before .before .loop .inv .1 .0)
 
 add-i : tie.Need-add-i Inv-loop μ-loop
 add-i c = search needs
@@ -75,7 +75,7 @@ loop-less : tie.Need-loop-less Inv-loop μ-loop
 loop-less c = search needs
 
 loop-again : tie.Need-loop-again Inv-loop μ-loop
-loop-again c = (omega arith, (rw length-set (c .before .before .before .before .before .before .loop .inv .1 .0), list-more (c .before .before .before .before .before .before .loop .inv .1 .1) (c .before .before .before .before .before .before .before .before .before .before .before .pre .0) (c .before .before .before .before .before .loop-test .taken) (c .before .before .before .before .before .before .loop .inv .1 .0)))
+loop-again c = (omega arith, (rw length-set (c .before .before .before .before .before .before .loop .inv .1 .0), list-more (c .before .before .before .before .before .before .loop .inv .1 .1) (c .before .before .before .before .before .before .before .before .before .before .before .pre .0) (c .before .before .before .before .before .loop-test .taken) (rw (c .before .before .before .before .before .before .loop .inv .1 .0) (c .before .before .before .before .before .before .before .before .before .before .before .pre .1))))
 
 add-i-2 : tie.Need-add-i-2 Inv-loop μ-loop
 add-i-2 c = search needs

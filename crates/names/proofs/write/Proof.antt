@@ -54,7 +54,7 @@ shared-slice-read-is-found : tie.Need-shared-slice-read-is-found Inv-loop μ-loo
 shared-slice-read-is-found c = search needs
 
 is-found-requires : tie.Need-is-found-requires Inv-loop μ-loop
-is-found-requires c κs = omega (arith, c .before .before .before .before .before .before .before .before .before .before .pre .columns .within (c .before .before .before .before .loop .i) (c .before .before .before .loop-test .taken), c .before .before .before .before .before .before .before .before .before .before .pre .long)
+is-found-requires c κs = c .before .before .before .before .before .before .before .before .before .before .pre .below .at (c .before .before .before .before .loop .i) (omega (arith, c .before .before .before .before .before .before .before .before .before .before .pre .columns .places))
 
 mul-at : tie.Need-mul-at Inv-loop μ-loop
 mul-at c = let r = go-room (c .before .before .before .before .before .before .before .before .before .before .before .before .pre .columns) (c .before .before .before .before .before .before .before .before .before .before .before .before .pre .words) (c .before .before .before .before .before .before .before .before .before .before .before .before .pre .found) (c .before .before .before .before .before .before .loop .inv .1 .1 (c .before .before .before .before .before .before .before .before .before .before .before .before .pre .table) (c .before .before .before .before .before .before .before .before .before .before .before .before .pre .words) (c .before .before .before .before .before .before .before .before .before .before .before .before .pre .found)) (c .before .before .before .before .before .loop-test .taken) (sym (c .before .is-found .ensures) ∙ c .if1 .taken) in omega arith

@@ -1,23 +1,44 @@
 use borrow.Author.Needs.{needs}
+use native.Mathlib.Omega.{arith}
 use Rattle.rows.proofs.is_named.Statement.{statement}
 use Rattle.rows.proofs.is_named.Tie as tie
 use Rattle.rows.proofs.is_named.Reads as reads
 use Rattle.rows.proofs.is_named.Lts as lts
-use Rattle.table.proofs.row_kind.Reads as row-kind-reads
-use Rattle.table.proofs.row_name.Reads as row-name-reads
-use Rattle.rows.proofs.Searches.{named-no, named-so}
+use Rattle.rows.proofs.Searches.{other-name, same-name}
 
-row-kind-requires : tie.Need-row-kind-requires
-row-kind-requires c κs = search needs
+mul-at : tie.Need-mul-at
+mul-at c = search needs
+
+add-if1 : tie.Need-add-if1
+add-if1 c = search needs
+
+mul-if1 : tie.Need-mul-if1
+mul-if1 c = search needs
+
+shared-slice-read-if1 : tie.Need-shared-slice-read-if1
+shared-slice-read-if1 c = search needs
 
 returns : tie.Need-returns
-returns c = record { of = λ t h. named-no _ _ (c .before .row-kind .ensures .of t h) _ _ 0 (c .if1 .taken) }
+returns c = record { of = λ t h. other-name h _ (c .before .before .pre .0) _ _ (c .if1 .taken) }
 
-row-name-requires : tie.Need-row-name-requires
-row-name-requires c κs = search needs
+mul-result : tie.Need-mul-result
+mul-result c = search needs
+
+shared-slice-read-result : tie.Need-shared-slice-read-result
+shared-slice-read-result c = search needs
 
 returns-2 : tie.Need-returns-2
-returns-2 c = record { of = λ t h. named-so _ _ (c .before .before .row-kind .ensures .of t h) _ _ 0 _ (c .row-name .ensures .of t h) (c .before .if1 .left) }
+returns-2 c = record { of = λ t h. same-name h _ (c .before .before .before .pre .0) _ _ (c .before .if1 .left) }
 
 pub is-named-spec : {M : Type 1} → statement M
-is-named-spec = tie.close (tie.spec row-kind-requires returns row-name-requires returns-2)
+is-named-spec =
+    tie.close
+    (tie.spec
+    mul-at
+    add-if1
+    mul-if1
+    shared-slice-read-if1
+    returns
+    mul-result
+    shared-slice-read-result
+    returns-2)

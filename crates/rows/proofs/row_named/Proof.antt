@@ -11,7 +11,7 @@ use lib.ListN.{length, drop}
 use Rattle.definition.specs.Table.{Table}
 use Rattle.definition.specs.Types.{rowNamed}
 use Rattle.table.specs.Held.{InWords}
-use Rattle.rows.proofs.Searches.{firstRow, namedTest, named-is, look-yes, look-no, look-end}
+use Rattle.rows.proofs.Searches.{firstRow, namedTest, named-is, look-yes, look-no, look-end, all-rows}
 
 abbrev Inv-loop : tie.InvT-loop
 Inv-loop w kind name rows i₀ i = (i ≤ rows) × ((t : Table) → InWords t w → rows ≡ length (t .rows) → rowNamed kind name 0 (t .rows) ≡ firstRow (namedTest kind name) i (drop i (t .rows)))
@@ -19,17 +19,20 @@ Inv-loop w kind name rows i₀ i = (i ≤ rows) × ((t : Table) → InWords t w 
 abbrev μ-loop : tie.MeasureT-loop
 μ-loop w kind name rows i₀ i = rows - i
 
+returns : tie.Need-returns Inv-loop μ-loop
+returns c = record { of = λ t h k. absurd (all-rows h (c .if1 .taken)) }
+
 loop-holds : tie.Need-loop-holds Inv-loop μ-loop
 loop-holds c = (omega arith, λ t h e. named-is _ _ 0 (t .rows))
 
-cast-n : tie.Need-cast-n Inv-loop μ-loop
-cast-n c = omega (arith, c .before .before .before .pre .rows)
-
 is-named-requires : tie.Need-is-named-requires Inv-loop μ-loop
-is-named-requires c κs = search needs
+is-named-requires c κs = (omega (arith, c .before .before .before .before .pre .rows), omega (arith, c .before .before .if1 .left))
 
-returns : tie.Need-returns Inv-loop μ-loop
-returns c = record { of = λ t h k. sym (c .before .before .before .loop .inv .1 t h (k .rows) ∙ look-yes (namedTest _ _) (t .rows) _ (omega (arith, k .rows)) (sym (c .before .is-named .ensures .of t h) ∙ c .if1 .taken)) }
+cast-t11 : tie.Need-cast-t11 Inv-loop μ-loop
+cast-t11 c = omega (arith, c .before .before .before .before .before .before .pre .rows)
+
+returns-2 : tie.Need-returns-2 Inv-loop μ-loop
+returns-2 c = record { of = λ t h k. sym (c .before .before .before .loop .inv .1 t h (k .rows) ∙ look-yes (namedTest _ _) (t .rows) _ (omega (arith, k .rows)) (sym (c .before .is-named .ensures .of t h) ∙ c .if2 .taken)) }
 
 add-i : tie.Need-add-i Inv-loop μ-loop
 add-i c = search needs
@@ -38,10 +41,10 @@ loop-less : tie.Need-loop-less Inv-loop μ-loop
 loop-less c = search needs
 
 loop-again : tie.Need-loop-again Inv-loop μ-loop
-loop-again c = (omega arith, λ t h e. c .before .before .before .loop .inv .1 t h e ∙ look-no (namedTest _ _) (t .rows) _ (omega (arith, e)) (sym (c .before .is-named .ensures .of t h) ∙ c .if1 .left))
+loop-again c = (omega arith, λ t h e. c .before .before .before .loop .inv .1 t h e ∙ look-no (namedTest _ _) (t .rows) _ (omega (arith, e)) (sym (c .before .is-named .ensures .of t h) ∙ c .if2 .left))
 
-returns-2 : tie.Need-returns-2 Inv-loop μ-loop
-returns-2 c = record { of = λ t h k. sym (c .before .loop .inv .1 t h (k .rows) ∙ look-end (namedTest _ _) (t .rows) _ (omega (arith, k .rows))) }
+returns-3 : tie.Need-returns-3 Inv-loop μ-loop
+returns-3 c = record { of = λ t h k. sym (c .before .loop .inv .1 t h (k .rows) ∙ look-end (namedTest _ _) (t .rows) _ (omega (arith, k .rows))) }
 
 pub row-named-spec : {M : Type 1} → statement M
 row-named-spec =
@@ -49,11 +52,12 @@ row-named-spec =
     (tie.spec
     Inv-loop
     μ-loop
-    loop-holds
-    cast-n
-    is-named-requires
     returns
+    loop-holds
+    is-named-requires
+    cast-t11
+    returns-2
     add-i
     loop-less
     loop-again
-    returns-2)
+    returns-3)

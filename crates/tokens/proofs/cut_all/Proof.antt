@@ -11,9 +11,9 @@ use Prim.Native.Nat.{_-_}
 use lib.ListN.{length}
 use borrow.Author.Needs.{needs}
 use Rattle.definition.specs.Cut.{cut}
-use Rattle.tokens.specs.Columns.{stop}
+use Rattle.tokens.specs.Columns.{Fills}
 use Rattle.tokens.specs.Going.{Linked}
-use Rattle.tokens.proofs.Rounds.{go-done, link-start, link-skip, link-token, link-name, link-refused, link-search, link-count, skip-on, token-on, name-on}
+use Rattle.tokens.proofs.Rounds.{go-done, link-start, link-skip, link-token, link-name, link-refused, link-search, link-count, skip-on, token-on, name-on, rest-done, rest-refused}
 
 abbrev Inv-loop : tie.InvT-loop
 Inv-loop text kinds₀ places₀ numbers₀ heads₀ at₀ line₀ count₀ kinds places numbers heads at line count = Linked text at line count kinds places numbers heads (cut text) × (length kinds ≡ length kinds₀) × (length places ≡ length places₀) × (length numbers ≡ length numbers₀)
@@ -85,7 +85,7 @@ same-length-3 : tie.Need-same-length-3 Inv-loop μ-loop
 same-length-3 c = c .before .before .before .before .before .loop .inv .3
 
 returns : tie.Need-returns Inv-loop μ-loop
-returns c = stop _ _ (link-refused _ _ _ _ _ _ _ _ _ (c .before .before .before .before .before .loop .inv .0) (c .before .before .before .before .loop-test .taken) _ (c .before .before .before .next .ensures) _ _ (c .before .p4 .given .1)) refl
+returns c = (Fills.stop _ _ (link-refused _ _ _ _ _ _ _ _ _ (c .before .before .before .before .before .loop .inv .0) (c .before .before .before .before .loop-test .taken) _ (c .before .before .before .next .ensures) _ _ (c .before .p4 .given .1)) refl, rest-refused _ _ _)
 
 same-length-4 : tie.Need-same-length-4 Inv-loop μ-loop
 same-length-4 c = c .before .loop .inv .1
@@ -97,7 +97,7 @@ same-length-6 : tie.Need-same-length-6 Inv-loop μ-loop
 same-length-6 c = c .before .loop .inv .3
 
 returns-2 : tie.Need-returns-2 Inv-loop μ-loop
-returns-2 c = go-done _ _ _ _ _ _ _ (c .before .loop .inv .0 .going) (c .loop-test .left)
+returns-2 c = (go-done _ _ _ _ _ _ _ (c .before .loop .inv .0 .going) (c .loop-test .left), rest-done _ _ (c .before .loop .inv .0 .rest))
 
 pub cut-all-spec : {M : Type 1} → statement M
 cut-all-spec =

@@ -3,12 +3,10 @@ use Rattle.tokens.proofs.tokenize.Statement.{statement}
 use Rattle.tokens.proofs.tokenize.Tie as tie
 use Rattle.tokens.proofs.tokenize.Reads as reads
 use Rattle.tokens.proofs.tokenize.Lts as lts
-use Rattle.tokens.proofs.ascii_end.Reads as ascii-end-reads
 use Rattle.tokens.proofs.clear.Reads as clear-reads
-use Rattle.tokens.proofs.fill.Reads as fill-reads
+use Rattle.tokens.proofs.lex.Reads as lex-reads
 use mathlib.Core.Path.{_∙_}
-use Rattle.definition.specs.Scan.{before}
-use Rattle.tokens.proofs.Entry.{too-long, not-ascii, bad-call, turned-down, all-refused, all-done, zero-lengths, zero-self, zero-again, long-enough, too-short-kinds, too-short-places, too-short-numbers}
+use Rattle.tokens.proofs.Entry.{bad-call, all-refused, all-done, zero-lengths, zero-self, zero-again, long-enough, room-if, too-short-kinds, too-short-places, too-short-numbers}
 
 clear-requires : tie.Need-clear-requires
 clear-requires c κs = search needs
@@ -49,6 +47,18 @@ same-length-9 c = search needs
 returns-3 : tie.Need-returns-3
 returns-3 c = bad-call (c .before .before .before .before .before .before .before .before .before .before .before .before .before .before .before .before .before .args .text .now) _ _ _ _ _ _ (too-short-numbers _ _ _ _ _ _ (c .before .before .before .before .before .before .before .before .before .clear .ensures) (c .if3 .taken)) (c .before .before .before .before .before .before .before .before .before .clear .ensures)
 
+lex-requires : tie.Need-lex-requires
+lex-requires c κs = (room-if _ _ _ _ (c .before .before .before .before .before .if1 .left) (c .before .before .before .before .if2 .left) (c .before .before .before .if3 .left), zero-self _ _ _ _ _ _ (c .before .before .before .before .before .before .before .before .before .before .before .before .clear .ensures))
+
+enum-known-r : tie.Need-enum-known-r
+enum-known-r c = search needs
+
+enum-known-r-2 : tie.Need-enum-known-r-2
+enum-known-r-2 c = search needs
+
+clear-requires-2 : tie.Need-clear-requires-2
+clear-requires-2 c κs = search needs
+
 same-length-10 : tie.Need-same-length-10
 same-length-10 c = search needs
 
@@ -59,10 +69,7 @@ same-length-12 : tie.Need-same-length-12
 same-length-12 c = search needs
 
 returns-4 : tie.Need-returns-4
-returns-4 c = turned-down (c .before .before .before .before .before .before .before .before .before .before .before .before .before .before .before .before .before .before .args .text .now) _ _ _ _ _ _ (long-enough _ _ _ _ _ _ (c .before .before .before .before .before .before .before .before .before .before .clear .ensures) (c .before .before .before .if1 .left) (c .before .before .if2 .left) (c .before .if3 .left)) 2 0 (too-long (c .before .before .before .before .before .before .before .before .before .before .before .before .before .before .before .before .before .before .args .text .now) (c .if4 .taken)) (c .before .before .before .before .before .before .before .before .before .before .clear .ensures)
-
-ascii-end-requires : tie.Need-ascii-end-requires
-ascii-end-requires c κs = search needs
+returns-4 c = let l = zero-lengths _ _ _ _ _ _ (c .before .before .before .before .before .before .before .before .before .before .before .before .before .before .before .before .before .before .before .before .before .before .clear .ensures) in all-done (c .before .before .before .before .before .before .before .before .before .before .before .before .before .before .before .before .before .before .before .before .before .before .before .before .before .before .before .before .before .before .args .text .now) (c .before .before .before .before .before .before .before .before .before .before .before .before .before .before .before .before .before .before .before .before .before .before .before .before .before .before .before .before .before .before .args .kinds .now) (c .before .before .before .before .before .before .before .before .before .before .before .before .before .before .before .before .before .before .before .before .before .before .before .before .before .before .before .before .before .before .args .places .now) (c .before .before .before .before .before .before .before .before .before .before .before .before .before .before .before .before .before .before .before .before .before .before .before .before .before .before .before .before .before .before .args .numbers .now) _ _ _ (long-enough _ _ _ _ _ _ (c .before .before .before .before .before .before .before .before .before .before .before .before .before .before .before .before .before .before .before .before .before .before .clear .ensures) (c .before .before .before .before .before .before .before .before .before .before .before .before .before .before .before .if1 .left) (c .before .before .before .before .before .before .before .before .before .before .before .before .before .before .if2 .left) (c .before .before .before .before .before .before .before .before .before .before .before .before .before .if3 .left)) _ (c .before .before .before .before .before .before .before .before .before .lex .kept .1 .0 ∙ l .0) (c .before .before .before .before .before .before .before .before .before .lex .kept .1 .1 .0 ∙ l .1) (c .before .before .before .before .before .before .before .before .before .lex .kept .1 .1 .1 .0 ∙ l .2) (c .before .before .before .before .before .before .before .before .before .lex .ensures) _ (c .before .r .given .1)
 
 same-length-13 : tie.Need-same-length-13
 same-length-13 c = search needs
@@ -74,43 +81,7 @@ same-length-15 : tie.Need-same-length-15
 same-length-15 c = search needs
 
 returns-5 : tie.Need-returns-5
-returns-5 c = turned-down (c .before .before .before .before .before .before .before .before .before .before .before .before .before .before .before .before .before .before .before .before .args .text .now) _ _ _ _ _ _ (long-enough _ _ _ _ _ _ (c .before .before .before .before .before .before .before .before .before .before .before .before .clear .ensures) (c .before .before .before .before .before .if1 .left) (c .before .before .before .before .if2 .left) (c .before .before .before .if3 .left)) 3 _ (not-ascii (c .before .before .before .before .before .before .before .before .before .before .before .before .before .before .before .before .before .before .before .before .args .text .now) (c .before .before .if4 .left) _ (c .before .ascii-end .ensures) (c .if5 .taken)) (c .before .before .before .before .before .before .before .before .before .before .before .before .clear .ensures)
-
-fill-requires : tie.Need-fill-requires
-fill-requires c κs = (record { fits = c .before .before .before .before .before .if4 .left; kinds = c .before .before .before .before .before .before .before .before .if1 .left; places = c .before .before .before .before .before .before .before .if2 .left; numbers = c .before .before .before .before .before .before .if3 .left }, zero-self _ _ _ _ _ _ (c .before .before .before .before .before .before .before .before .before .before .before .before .before .before .before .clear .ensures))
-
-enum-known-r : tie.Need-enum-known-r
-enum-known-r c = search needs
-
-enum-known-r-2 : tie.Need-enum-known-r-2
-enum-known-r-2 c = search needs
-
-clear-requires-2 : tie.Need-clear-requires-2
-clear-requires-2 c κs = search needs
-
-same-length-16 : tie.Need-same-length-16
-same-length-16 c = search needs
-
-same-length-17 : tie.Need-same-length-17
-same-length-17 c = search needs
-
-same-length-18 : tie.Need-same-length-18
-same-length-18 c = search needs
-
-returns-6 : tie.Need-returns-6
-returns-6 c = let l = zero-lengths _ _ _ _ _ _ (c .before .before .before .before .before .before .before .before .before .before .before .before .before .before .before .before .before .before .before .before .before .before .before .before .before .clear .ensures) in all-done (c .before .before .before .before .before .before .before .before .before .before .before .before .before .before .before .before .before .before .before .before .before .before .before .before .before .before .before .before .before .before .before .before .before .args .text .now) (c .before .before .before .before .before .before .before .before .before .before .before .before .before .before .before .before .before .before .before .before .before .before .before .before .before .before .before .before .before .before .before .before .before .args .kinds .now) (c .before .before .before .before .before .before .before .before .before .before .before .before .before .before .before .before .before .before .before .before .before .before .before .before .before .before .before .before .before .before .before .before .before .args .places .now) (c .before .before .before .before .before .before .before .before .before .before .before .before .before .before .before .before .before .before .before .before .before .before .before .before .before .before .before .before .before .before .before .before .before .args .numbers .now) _ _ _ (long-enough _ _ _ _ _ _ (c .before .before .before .before .before .before .before .before .before .before .before .before .before .before .before .before .before .before .before .before .before .before .before .before .before .clear .ensures) (c .before .before .before .before .before .before .before .before .before .before .before .before .before .before .before .before .before .before .if1 .left) (c .before .before .before .before .before .before .before .before .before .before .before .before .before .before .before .before .before .if2 .left) (c .before .before .before .before .before .before .before .before .before .before .before .before .before .before .before .before .if3 .left)) (c .before .before .before .before .before .before .before .before .before .before .before .before .before .before .before .if4 .left) _ (c .before .before .before .before .before .before .before .before .before .before .before .before .before .before .ascii-end .ensures) (c .before .before .before .before .before .before .before .before .before .before .before .before .before .if5 .left) _ (c .before .before .before .before .before .before .before .before .before .fill .ensures) _ (c .before .r .given .1) (c .before .before .before .before .before .before .before .before .before .fill .kept .1 .0 ∙ l .0) (c .before .before .before .before .before .before .before .before .before .fill .kept .1 .1 .0 ∙ l .1) (c .before .before .before .before .before .before .before .before .before .fill .kept .1 .1 .1 .0 ∙ l .2)
-
-same-length-19 : tie.Need-same-length-19
-same-length-19 c = search needs
-
-same-length-20 : tie.Need-same-length-20
-same-length-20 c = search needs
-
-same-length-21 : tie.Need-same-length-21
-same-length-21 c = search needs
-
-returns-7 : tie.Need-returns-7
-returns-7 c = let l = zero-lengths _ _ _ _ _ _ (c .before .before .before .before .before .before .before .before .before .before .before .before .before .before .before .before .before .before .before .before .before .before .before .before .before .before .before .before .before .before .before .before .before .before .before .clear .ensures) in all-refused (c .before .before .before .before .before .before .before .before .before .before .before .before .before .before .before .before .before .before .before .before .before .before .before .before .before .before .before .before .before .before .before .before .before .before .before .before .before .before .before .before .before .before .before .args .text .now) _ _ _ _ _ _ (long-enough _ _ _ _ _ _ (c .before .before .before .before .before .before .before .before .before .before .before .before .before .before .before .before .before .before .before .before .before .before .before .before .before .before .before .before .before .before .before .before .before .before .before .clear .ensures) (c .before .before .before .before .before .before .before .before .before .before .before .before .before .before .before .before .before .before .before .before .before .before .before .before .before .before .before .before .if1 .left) (c .before .before .before .before .before .before .before .before .before .before .before .before .before .before .before .before .before .before .before .before .before .before .before .before .before .before .before .if2 .left) (c .before .before .before .before .before .before .before .before .before .before .before .before .before .before .before .before .before .before .before .before .before .before .before .before .before .before .if3 .left)) (c .before .before .before .before .before .before .before .before .before .before .before .before .before .before .before .before .before .before .before .before .before .before .before .before .before .if4 .left) _ (c .before .before .before .before .before .before .before .before .before .before .before .before .before .before .before .before .before .before .before .before .before .before .before .before .ascii-end .ensures) (c .before .before .before .before .before .before .before .before .before .before .before .before .before .before .before .before .before .before .before .before .before .before .before .if5 .left) _ (c .before .before .before .before .before .before .before .before .before .before .before .before .before .before .before .before .before .before .before .fill .ensures) _ _ (c .before .before .before .before .before .before .before .before .before .before .before .r2 .given .1) _ _ _ (zero-again _ _ _ _ _ _ (c .before .before .before .before .before .before .before .before .before .before .before .before .before .before .before .before .before .before .before .before .before .before .before .before .before .before .before .before .before .before .before .before .before .before .before .clear .ensures) _ _ _ _ _ _ (c .before .before .before .before .before .before .before .before .before .before .before .before .before .before .before .before .before .before .before .fill .kept .1 .0 ∙ l .0) (c .before .before .before .before .before .before .before .before .before .before .before .before .before .before .before .before .before .before .before .fill .kept .1 .1 .0 ∙ l .1) (c .before .before .before .before .before .before .before .before .before .before .before .before .before .before .before .before .before .before .before .fill .kept .1 .1 .1 .0 ∙ l .2) (c .before .before .before .before .before .before .clear2 .ensures))
+returns-5 c = let l = zero-lengths _ _ _ _ _ _ (c .before .before .before .before .before .before .before .before .before .before .before .before .before .before .before .before .before .before .before .before .before .before .before .before .before .before .before .before .before .before .before .before .clear .ensures) in all-refused (c .before .before .before .before .before .before .before .before .before .before .before .before .before .before .before .before .before .before .before .before .before .before .before .before .before .before .before .before .before .before .before .before .before .before .before .before .before .before .before .before .args .text .now) _ _ _ _ _ _ (long-enough _ _ _ _ _ _ (c .before .before .before .before .before .before .before .before .before .before .before .before .before .before .before .before .before .before .before .before .before .before .before .before .before .before .before .before .before .before .before .before .clear .ensures) (c .before .before .before .before .before .before .before .before .before .before .before .before .before .before .before .before .before .before .before .before .before .before .before .before .before .if1 .left) (c .before .before .before .before .before .before .before .before .before .before .before .before .before .before .before .before .before .before .before .before .before .before .before .before .if2 .left) (c .before .before .before .before .before .before .before .before .before .before .before .before .before .before .before .before .before .before .before .before .before .before .before .if3 .left)) _ _ _ _ (c .before .before .before .before .before .before .before .before .before .before .before .before .before .before .before .before .before .before .before .lex .ensures) _ _ (c .before .before .before .before .before .before .before .before .before .before .before .r2 .given .1) (zero-again _ _ _ _ _ _ (c .before .before .before .before .before .before .before .before .before .before .before .before .before .before .before .before .before .before .before .before .before .before .before .before .before .before .before .before .before .before .before .before .clear .ensures) _ _ _ _ _ _ (c .before .before .before .before .before .before .before .before .before .before .before .before .before .before .before .before .before .before .before .lex .kept .1 .0 ∙ l .0) (c .before .before .before .before .before .before .before .before .before .before .before .before .before .before .before .before .before .before .before .lex .kept .1 .1 .0 ∙ l .1) (c .before .before .before .before .before .before .before .before .before .before .before .before .before .before .before .before .before .before .before .lex .kept .1 .1 .1 .0 ∙ l .2) (c .before .before .before .before .before .before .clear2 .ensures))
 
 pub tokenize-spec : {M : Type 1} → statement M
 tokenize-spec =
@@ -129,24 +100,15 @@ tokenize-spec =
     same-length-8
     same-length-9
     returns-3
+    lex-requires
+    enum-known-r
+    enum-known-r-2
+    clear-requires-2
     same-length-10
     same-length-11
     same-length-12
     returns-4
-    ascii-end-requires
     same-length-13
     same-length-14
     same-length-15
-    returns-5
-    fill-requires
-    enum-known-r
-    enum-known-r-2
-    clear-requires-2
-    same-length-16
-    same-length-17
-    same-length-18
-    returns-6
-    same-length-19
-    same-length-20
-    same-length-21
-    returns-7)
+    returns-5)

@@ -66,6 +66,7 @@ use Rattle.basing.proofs.named_type.Reads as named-type-reads
 use Rattle.bodies.proofs.add_body.Reads as add-body-reads
 use Rattle.bodies.proofs.define_body.Reads as define-body-reads
 use Rattle.declarator_heads.proofs.Declared.new.Reads as new-reads
+use Rattle.declarator_heads.proofs.is_plain.Reads as is-plain-reads
 use Rattle.declarator_heads.proofs.opens_declarator.Reads as opens-declarator-reads
 use Rattle.declarator_heads.proofs.stars.Reads as stars-reads
 use Rattle.deriving.proofs.apply.Reads as apply-reads
@@ -112,8 +113,95 @@ use Rattle.table.proofs.Shown.{got!, got-at, no!, call, fail, refuse, held, hel
 use Rattle.table.proofs.Steps.{there, is+, is-, ate, missed}
 use Rattle.table.specs.Reply.{step, move, ok, bad}
 use Rattle.parser.proofs.Declaring.{starts-empty, typed-stop, declared-held, declared-few, typed-refused, typed-done}
+use Rattle.parser.proofs.Plain.{a-name, name-there, is-alone, has-levels, typed-plain}
+
+pub declared-type-is-plain-requires : (t : ℕ) → declared-type-lts.Need-is-plain-requires (
+  is-plain-reads.Asked,
+  is-plain-reads.Learnt,
+  moved-reads.Asked,
+  moved-reads.Learnt,
+  name-at-reads.Asked,
+  name-at-reads.Learnt,
+  empty-reads.Asked,
+  empty-reads.Learnt,
+  declarator-below t,
+  declarator.Post,
+  apply-reads.Asked,
+  apply-reads.Learnt,
+) (declared-type-at t) declared-type.Post
+declared-type-is-plain-requires t c κs = search needs
+
+pub declared-type-add-moved : (t : ℕ) → declared-type-lts.Need-add-moved (
+  is-plain-reads.Asked,
+  is-plain-reads.Learnt,
+  moved-reads.Asked,
+  moved-reads.Learnt,
+  name-at-reads.Asked,
+  name-at-reads.Learnt,
+  empty-reads.Asked,
+  empty-reads.Learnt,
+  declarator-below t,
+  declarator.Post,
+  apply-reads.Asked,
+  apply-reads.Learnt,
+) (declared-type-at t) declared-type.Post
+declared-type-add-moved t c = omega (arith, name-there _ _ (is-alone _ _ _ (c .before .is-plain .ensures) (c .if1 .taken)))
+
+pub declared-type-moved-requires : (t : ℕ) → declared-type-lts.Need-moved-requires (
+  is-plain-reads.Asked,
+  is-plain-reads.Learnt,
+  moved-reads.Asked,
+  moved-reads.Learnt,
+  name-at-reads.Asked,
+  name-at-reads.Learnt,
+  empty-reads.Asked,
+  empty-reads.Learnt,
+  declarator-below t,
+  declarator.Post,
+  apply-reads.Asked,
+  apply-reads.Learnt,
+) (declared-type-at t) declared-type.Post
+declared-type-moved-requires t c κs = search needs
+
+pub declared-type-name-at-requires : (t : ℕ) → declared-type-lts.Need-name-at-requires (
+  is-plain-reads.Asked,
+  is-plain-reads.Learnt,
+  moved-reads.Asked,
+  moved-reads.Learnt,
+  name-at-reads.Asked,
+  name-at-reads.Learnt,
+  empty-reads.Asked,
+  empty-reads.Learnt,
+  declarator-below t,
+  declarator.Post,
+  apply-reads.Asked,
+  apply-reads.Learnt,
+) (declared-type-at t) declared-type.Post
+declared-type-name-at-requires t c κs = c .before .before .before .before .before .before .before .pre .1 .1 .names .fit _ (a-name _ _ (is-alone _ _ _ (c .before .before .is-plain .ensures) (c .before .if1 .taken)))
+
+pub declared-type-returns : (t : ℕ) → declared-type-lts.Need-returns (
+  is-plain-reads.Asked,
+  is-plain-reads.Learnt,
+  moved-reads.Asked,
+  moved-reads.Learnt,
+  name-at-reads.Asked,
+  name-at-reads.Learnt,
+  empty-reads.Asked,
+  empty-reads.Learnt,
+  declarator-below t,
+  declarator.Post,
+  apply-reads.Asked,
+  apply-reads.Learnt,
+) (declared-type-at t) declared-type.Post
+declared-type-returns t c = typed-plain _ _ _ _ _ (has-levels _ (c .before .before .before .is-plain .ensures) (c .before .before .if1 .taken)) (is-alone _ _ _ (c .before .before .before .is-plain .ensures) (c .before .before .if1 .taken)) (c .name-at .ensures) (c .before .moved .ensures)
 
 pub declared-type-empty-requires : (t : ℕ) → declared-type-lts.Need-empty-requires (
+  is-plain-reads.Asked,
+  is-plain-reads.Learnt,
+  moved-reads.Asked,
+  moved-reads.Learnt,
+  name-at-reads.Asked,
+  name-at-reads.Learnt,
   empty-reads.Asked,
   empty-reads.Learnt,
   declarator-below t,
@@ -124,6 +212,12 @@ pub declared-type-empty-requires : (t : ℕ) → declared-type-lts.Need-empty-re
 declared-type-empty-requires t c κs = search needs
 
 pub declared-type-declarator-requires : (t : ℕ) → declared-type-lts.Need-declarator-requires (
+  is-plain-reads.Asked,
+  is-plain-reads.Learnt,
+  moved-reads.Asked,
+  moved-reads.Learnt,
+  name-at-reads.Asked,
+  name-at-reads.Learnt,
   empty-reads.Asked,
   empty-reads.Learnt,
   declarator-below t,
@@ -131,9 +225,15 @@ pub declared-type-declarator-requires : (t : ℕ) → declared-type-lts.Need-dec
   apply-reads.Asked,
   apply-reads.Learnt,
 ) (declared-type-at t) declared-type.Post
-declared-type-declarator-requires t c κs = (omega (arith, c .before .before .before .before .before .before .before .before .pre .0), (c .before .before .before .before .before .before .before .before .pre .1 .0, (c .before .before .before .before .before .before .before .before .pre .1 .1, starts-empty _ (c .empty .ensures))))
+declared-type-declarator-requires t c κs = (omega (arith, c .before .before .before .before .before .before .before .before .before .before .pre .0), (c .before .before .before .before .before .before .before .before .before .before .pre .1 .0, (c .before .before .before .before .before .before .before .before .before .before .pre .1 .1, starts-empty _ (c .empty .ensures))))
 
 pub declared-type-enum-known-answer : (t : ℕ) → declared-type-lts.Need-enum-known-answer (
+  is-plain-reads.Asked,
+  is-plain-reads.Learnt,
+  moved-reads.Asked,
+  moved-reads.Learnt,
+  name-at-reads.Asked,
+  name-at-reads.Learnt,
   empty-reads.Asked,
   empty-reads.Learnt,
   declarator-below t,
@@ -144,6 +244,12 @@ pub declared-type-enum-known-answer : (t : ℕ) → declared-type-lts.Need-enum-
 declared-type-enum-known-answer t c = search needs
 
 pub declared-type-apply-requires : (t : ℕ) → declared-type-lts.Need-apply-requires (
+  is-plain-reads.Asked,
+  is-plain-reads.Learnt,
+  moved-reads.Asked,
+  moved-reads.Learnt,
+  name-at-reads.Asked,
+  name-at-reads.Learnt,
   empty-reads.Asked,
   empty-reads.Learnt,
   declarator-below t,
@@ -151,9 +257,15 @@ pub declared-type-apply-requires : (t : ℕ) → declared-type-lts.Need-apply-re
   apply-reads.Asked,
   apply-reads.Learnt,
 ) (declared-type-at t) declared-type.Post
-declared-type-apply-requires t c κs = (declared-held (c .before .before .before .before .before .before .before .before .before .before .before .before .declarator .ensures) (c .before .before .before .before .answer .given .1) (c .before .before .before .before .before .before .before .before .before .before .before .before .before .before .before .before .before .before .before .before .before .pre .1 .0), declared-few (c .before .before .before .before .before .before .before .before .before .before .before .before .declarator .ensures) (c .before .before .before .before .answer .given .1))
+declared-type-apply-requires t c κs = (declared-held (c .before .before .before .before .before .before .before .before .before .before .before .before .declarator .ensures) (c .before .before .before .before .answer .given .1) (c .before .before .before .before .before .before .before .before .before .before .before .before .before .before .before .before .before .before .before .before .before .before .before .pre .1 .0), declared-few (c .before .before .before .before .before .before .before .before .before .before .before .before .declarator .ensures) (c .before .before .before .before .answer .given .1))
 
 pub declared-type-enum-known-r : (t : ℕ) → declared-type-lts.Need-enum-known-r (
+  is-plain-reads.Asked,
+  is-plain-reads.Learnt,
+  moved-reads.Asked,
+  moved-reads.Learnt,
+  name-at-reads.Asked,
+  name-at-reads.Learnt,
   empty-reads.Asked,
   empty-reads.Learnt,
   declarator-below t,
@@ -164,6 +276,12 @@ pub declared-type-enum-known-r : (t : ℕ) → declared-type-lts.Need-enum-known
 declared-type-enum-known-r t c = search needs
 
 pub declared-type-enum-known-r-2 : (t : ℕ) → declared-type-lts.Need-enum-known-r-2 (
+  is-plain-reads.Asked,
+  is-plain-reads.Learnt,
+  moved-reads.Asked,
+  moved-reads.Learnt,
+  name-at-reads.Asked,
+  name-at-reads.Learnt,
   empty-reads.Asked,
   empty-reads.Learnt,
   declarator-below t,
@@ -174,6 +292,12 @@ pub declared-type-enum-known-r-2 : (t : ℕ) → declared-type-lts.Need-enum-kno
 declared-type-enum-known-r-2 t c = search needs
 
 pub declared-type-enum-known-answer-2 : (t : ℕ) → declared-type-lts.Need-enum-known-answer-2 (
+  is-plain-reads.Asked,
+  is-plain-reads.Learnt,
+  moved-reads.Asked,
+  moved-reads.Learnt,
+  name-at-reads.Asked,
+  name-at-reads.Learnt,
   empty-reads.Asked,
   empty-reads.Learnt,
   declarator-below t,
@@ -184,6 +308,12 @@ pub declared-type-enum-known-answer-2 : (t : ℕ) → declared-type-lts.Need-enu
 declared-type-enum-known-answer-2 t c = search needs
 
 pub declared-type-same-length : (t : ℕ) → declared-type-lts.Need-same-length (
+  is-plain-reads.Asked,
+  is-plain-reads.Learnt,
+  moved-reads.Asked,
+  moved-reads.Learnt,
+  name-at-reads.Asked,
+  name-at-reads.Learnt,
   empty-reads.Asked,
   empty-reads.Learnt,
   declarator-below t,
@@ -194,6 +324,12 @@ pub declared-type-same-length : (t : ℕ) → declared-type-lts.Need-same-length
 declared-type-same-length t c = search needs
 
 pub declared-type-same-length-2 : (t : ℕ) → declared-type-lts.Need-same-length-2 (
+  is-plain-reads.Asked,
+  is-plain-reads.Learnt,
+  moved-reads.Asked,
+  moved-reads.Learnt,
+  name-at-reads.Asked,
+  name-at-reads.Learnt,
   empty-reads.Asked,
   empty-reads.Learnt,
   declarator-below t,
@@ -204,6 +340,12 @@ pub declared-type-same-length-2 : (t : ℕ) → declared-type-lts.Need-same-leng
 declared-type-same-length-2 t c = search needs
 
 pub declared-type-same-length-3 : (t : ℕ) → declared-type-lts.Need-same-length-3 (
+  is-plain-reads.Asked,
+  is-plain-reads.Learnt,
+  moved-reads.Asked,
+  moved-reads.Learnt,
+  name-at-reads.Asked,
+  name-at-reads.Learnt,
   empty-reads.Asked,
   empty-reads.Learnt,
   declarator-below t,
@@ -213,7 +355,13 @@ pub declared-type-same-length-3 : (t : ℕ) → declared-type-lts.Need-same-leng
 ) (declared-type-at t) declared-type.Post
 declared-type-same-length-3 t c = search needs
 
-pub declared-type-returns : (t : ℕ) → declared-type-lts.Need-returns (
+pub declared-type-returns-2 : (t : ℕ) → declared-type-lts.Need-returns-2 (
+  is-plain-reads.Asked,
+  is-plain-reads.Learnt,
+  moved-reads.Asked,
+  moved-reads.Learnt,
+  name-at-reads.Asked,
+  name-at-reads.Learnt,
   empty-reads.Asked,
   empty-reads.Learnt,
   declarator-below t,
@@ -221,9 +369,15 @@ pub declared-type-returns : (t : ℕ) → declared-type-lts.Need-returns (
   apply-reads.Asked,
   apply-reads.Learnt,
 ) (declared-type-at t) declared-type.Post
-declared-type-returns t c = typed-done _ _ (c .before .before .before .before .before .before .before .before .before .before .before .before .before .before .before .before .before .before .before .before .before .before .empty .ensures) (c .before .before .before .before .before .before .before .before .before .before .before .before .before .before .before .before .before .before .before .before .before .declarator .ensures) (c .before .before .before .before .before .before .before .before .before .before .before .before .before .answer .given .1) (c .before .before .before .before .before .before .before .before .apply .ensures) (c .before .r .given .1)
+declared-type-returns-2 t c = typed-done _ _ (c .before .before .before .before .before .before .before .before .before .before .before .before .before .before .before .before .before .before .before .before .before .before .empty .ensures) (c .before .before .before .before .before .before .before .before .before .before .before .before .before .before .before .before .before .before .before .before .before .declarator .ensures) (c .before .before .before .before .before .before .before .before .before .before .before .before .before .answer .given .1) (c .before .before .before .before .before .before .before .before .apply .ensures) (c .before .r .given .1)
 
 pub declared-type-same-length-4 : (t : ℕ) → declared-type-lts.Need-same-length-4 (
+  is-plain-reads.Asked,
+  is-plain-reads.Learnt,
+  moved-reads.Asked,
+  moved-reads.Learnt,
+  name-at-reads.Asked,
+  name-at-reads.Learnt,
   empty-reads.Asked,
   empty-reads.Learnt,
   declarator-below t,
@@ -234,6 +388,12 @@ pub declared-type-same-length-4 : (t : ℕ) → declared-type-lts.Need-same-leng
 declared-type-same-length-4 t c = search needs
 
 pub declared-type-same-length-5 : (t : ℕ) → declared-type-lts.Need-same-length-5 (
+  is-plain-reads.Asked,
+  is-plain-reads.Learnt,
+  moved-reads.Asked,
+  moved-reads.Learnt,
+  name-at-reads.Asked,
+  name-at-reads.Learnt,
   empty-reads.Asked,
   empty-reads.Learnt,
   declarator-below t,
@@ -244,6 +404,12 @@ pub declared-type-same-length-5 : (t : ℕ) → declared-type-lts.Need-same-leng
 declared-type-same-length-5 t c = search needs
 
 pub declared-type-same-length-6 : (t : ℕ) → declared-type-lts.Need-same-length-6 (
+  is-plain-reads.Asked,
+  is-plain-reads.Learnt,
+  moved-reads.Asked,
+  moved-reads.Learnt,
+  name-at-reads.Asked,
+  name-at-reads.Learnt,
   empty-reads.Asked,
   empty-reads.Learnt,
   declarator-below t,
@@ -253,7 +419,13 @@ pub declared-type-same-length-6 : (t : ℕ) → declared-type-lts.Need-same-leng
 ) (declared-type-at t) declared-type.Post
 declared-type-same-length-6 t c = search needs
 
-pub declared-type-returns-2 : (t : ℕ) → declared-type-lts.Need-returns-2 (
+pub declared-type-returns-3 : (t : ℕ) → declared-type-lts.Need-returns-3 (
+  is-plain-reads.Asked,
+  is-plain-reads.Learnt,
+  moved-reads.Asked,
+  moved-reads.Learnt,
+  name-at-reads.Asked,
+  name-at-reads.Learnt,
   empty-reads.Asked,
   empty-reads.Learnt,
   declarator-below t,
@@ -261,9 +433,15 @@ pub declared-type-returns-2 : (t : ℕ) → declared-type-lts.Need-returns-2 (
   apply-reads.Asked,
   apply-reads.Learnt,
 ) (declared-type-at t) declared-type.Post
-declared-type-returns-2 t c = typed-refused _ _ (c .before .before .before .before .before .before .before .before .before .before .before .before .before .before .before .before .before .before .before .before .before .before .empty .ensures) (c .before .before .before .before .before .before .before .before .before .before .before .before .before .before .before .before .before .before .before .before .before .declarator .ensures) (c .before .before .before .before .before .before .before .before .before .before .before .before .before .answer .given .1) (c .before .before .before .before .before .before .before .before .apply .ensures) (c .before .r2 .given .1)
+declared-type-returns-3 t c = typed-refused _ _ (c .before .before .before .before .before .before .before .before .before .before .before .before .before .before .before .before .before .before .before .before .before .before .empty .ensures) (c .before .before .before .before .before .before .before .before .before .before .before .before .before .before .before .before .before .before .before .before .before .declarator .ensures) (c .before .before .before .before .before .before .before .before .before .before .before .before .before .answer .given .1) (c .before .before .before .before .before .before .before .before .apply .ensures) (c .before .r2 .given .1)
 
 pub declared-type-same-length-7 : (t : ℕ) → declared-type-lts.Need-same-length-7 (
+  is-plain-reads.Asked,
+  is-plain-reads.Learnt,
+  moved-reads.Asked,
+  moved-reads.Learnt,
+  name-at-reads.Asked,
+  name-at-reads.Learnt,
   empty-reads.Asked,
   empty-reads.Learnt,
   declarator-below t,
@@ -274,6 +452,12 @@ pub declared-type-same-length-7 : (t : ℕ) → declared-type-lts.Need-same-leng
 declared-type-same-length-7 t c = search needs
 
 pub declared-type-same-length-8 : (t : ℕ) → declared-type-lts.Need-same-length-8 (
+  is-plain-reads.Asked,
+  is-plain-reads.Learnt,
+  moved-reads.Asked,
+  moved-reads.Learnt,
+  name-at-reads.Asked,
+  name-at-reads.Learnt,
   empty-reads.Asked,
   empty-reads.Learnt,
   declarator-below t,
@@ -284,6 +468,12 @@ pub declared-type-same-length-8 : (t : ℕ) → declared-type-lts.Need-same-leng
 declared-type-same-length-8 t c = search needs
 
 pub declared-type-same-length-9 : (t : ℕ) → declared-type-lts.Need-same-length-9 (
+  is-plain-reads.Asked,
+  is-plain-reads.Learnt,
+  moved-reads.Asked,
+  moved-reads.Learnt,
+  name-at-reads.Asked,
+  name-at-reads.Learnt,
   empty-reads.Asked,
   empty-reads.Learnt,
   declarator-below t,
@@ -293,7 +483,13 @@ pub declared-type-same-length-9 : (t : ℕ) → declared-type-lts.Need-same-leng
 ) (declared-type-at t) declared-type.Post
 declared-type-same-length-9 t c = search needs
 
-pub declared-type-returns-3 : (t : ℕ) → declared-type-lts.Need-returns-3 (
+pub declared-type-returns-4 : (t : ℕ) → declared-type-lts.Need-returns-4 (
+  is-plain-reads.Asked,
+  is-plain-reads.Learnt,
+  moved-reads.Asked,
+  moved-reads.Learnt,
+  name-at-reads.Asked,
+  name-at-reads.Learnt,
   empty-reads.Asked,
   empty-reads.Learnt,
   declarator-below t,
@@ -301,4 +497,4 @@ pub declared-type-returns-3 : (t : ℕ) → declared-type-lts.Need-returns-3 (
   apply-reads.Asked,
   apply-reads.Learnt,
 ) (declared-type-at t) declared-type.Post
-declared-type-returns-3 t c = typed-stop _ _ (c .before .before .before .before .before .before .before .before .before .before .empty .ensures) (c .before .before .before .before .before .before .before .before .before .declarator .ensures) (c .before .answer2 .given .1)
+declared-type-returns-4 t c = typed-stop _ _ (c .before .before .before .before .before .before .before .before .before .before .empty .ensures) (c .before .before .before .before .before .before .before .before .before .declarator .ensures) (c .before .answer2 .given .1)
