@@ -12,7 +12,7 @@ use Rattle.definition.specs.Scan.{from}
 use Rattle.scan.proofs.Branch.{yes!, nay! }
 use Rattle.scan.proofs.Going.{from-cons, from-end}
 use Rattle.chains.specs.Names.{isNameOf}
-use Rattle.chains.specs.Chain.{hashed, link, bare, nameOn, Reach, here, there}
+use Rattle.chains.specs.Chain.{hashed, HeadCount, few, many, slot, link, bare, nameOn, Reach, here, there}
 
 hash-cons : (h b : ℕ) (bs : Bytes) → hashed h (b ∷ bs) ≡ hashed ((33 * h + b) % 4096) bs
 unfolding hashed
@@ -25,6 +25,15 @@ hash-more w h i b h′ whole p e q r =
 pub hash-end : (w : Bytes) (h i whole : ℕ) → length w ≤ i → whole ≡ hashed h (from w i) → h ≡ whole
 unfolding hashed
 hash-end w h i whole p r = sym (r ∙ ap (hashed h) (from-end w i p))
+
+-- the chain among many, and among few
+module _ (w : Bytes) (h n : ℕ) (is : h ≡ hashed 0 w) where
+  pub slot-many : h < 4096 → n ≡ 4096 → (h ≡ slot w n) × (h < n)
+  slot-many l e = (rw e (omega (arith, is, l)), omega arith)
+
+  pub slot-few : HeadCount n → (n ≡ 4096 → ⊥) → (h % 64 ≡ slot w n) × (h % 64 < n)
+  slot-few (many e) z = absurd (z e)
+  slot-few (few e) z = (rw e (ap (λ (x : ℕ). x % 64) is), omega arith)
 
 -- the walk: a token of the spelling, one that is not, and the end
 module _ (text w : Bytes) (ks ps ns : List ℕ) (rounds c i whole : ℕ) (is : c ≡ suc i) (enough : c ≤ rounds) (e : whole ≡ nameOn text w ks ps ns rounds c) where

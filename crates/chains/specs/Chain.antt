@@ -13,6 +13,15 @@ unfoldable pub hashed : ℕ → Bytes → ℕ
 hashed h [] = h
 hashed h (b ∷ bs) = hashed ((33 * h + b) % 4096) bs
 
+-- few chains for a small text, as all heads are cleared before it is read
+pub data HeadCount (n : ℕ) : Type 0 where
+  few : n ≡ 64 → HeadCount n
+  many : n ≡ 4096 → HeadCount n
+
+-- the chain of a spelling among so many
+abbrev pub slot : Bytes → ℕ → ℕ
+slot w n = hashed 0 w % n
+
 abbrev pub link : List ℕ → ℕ → ℕ
 link ps i = getD ps i 0 / 65536
 
@@ -41,9 +50,9 @@ pub record Walks (text : Bytes) (ks ps ns : List ℕ) (count head at end : ℕ) 
   pub inside : (j : ℕ) → j < count → isName (getD ks j 0) ≡ true → Inside text (getD ns j 0)
   pub falls : (j : ℕ) → j < count → link ps j ≤ j
 
--- every name among the tokens is on the chain of its spelling's hash, at its first token
+-- every name among the tokens is on the chain of its spelling, at its first token
 pub record Chained (text : Bytes) (ks ps ns heads : List ℕ) (count : ℕ) : Type 0 where
   pub falls : (j : ℕ) → j < count → link ps j ≤ j
   pub low : (h : ℕ) → getD heads h 0 ≤ count
   pub chain : (j : ℕ) → j < count → isName (getD ks j 0) ≡ true
-      → (i : ℕ) × Reach ps (getD heads (hashed 0 (spelledBy text (getD ns j 0))) 0) i × (getD ns i 0 ≡ getD ns j 0) × (isName (getD ks i 0) ≡ true)
+      → (i : ℕ) × Reach ps (getD heads (slot (spelledBy text (getD ns j 0)) (length heads)) 0) i × (getD ns i 0 ≡ getD ns j 0) × (isName (getD ks i 0) ≡ true)

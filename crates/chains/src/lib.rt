@@ -10,7 +10,7 @@ ghost use Rattle.definition.specs.Kind.{isName};
 ghost use Rattle.definition.specs.Text.{same};
 ghost use Rattle.definition.specs.Scan.{from};
 ghost use Rattle.chains.specs.Names.{spelledBy, Inside, isNameOf};
-ghost use Rattle.chains.specs.Chain.{hashed, bare, nameOn, Walks};
+ghost use Rattle.chains.specs.Chain.{hashed, HeadCount, slot, bare, nameOn, Walks};
 
 const IDENTIFIER: u32 = 4;
 
@@ -20,6 +20,9 @@ const LAST_NAME: u32 = 24;
 pub const NAME_LENGTH: u64 = 65536;
 
 pub const HEADS: usize = 4096;
+
+// For a small text, as all heads are cleared before it is read.
+pub const FEW_HEADS: usize = 64;
 
 // A token's place, and this times its link.
 pub const LINK: u32 = 65536;
@@ -59,8 +62,8 @@ fn is_name_of(text: &[u8], k: u32, n: u64, at: usize, end: usize) -> bool
     false
 }
 
-// The chain of a spelling.
-pub fn hash(word: &[u8]) -> usize
+// A hash of a spelling.
+fn hash(word: &[u8]) -> usize
     ensures { λ r. ⌜ r ≡ hashed 0 (now (word .entry)) ⌝ }
     ensures { λ r. ⌜ r < 4096 ⌝ }
 {
@@ -72,6 +75,19 @@ pub fn hash(word: &[u8]) -> usize
         i += 1;
     }
     h
+}
+
+// The chain of a spelling among so many. A remainder by a number that varies is slow.
+pub fn slot(word: &[u8], heads: usize) -> usize
+    requires { ⌜ HeadCount heads ⌝ }
+    ensures { λ r. ⌜ r ≡ slot (now (word .entry)) heads ⌝ }
+    ensures { λ r. ⌜ r < heads ⌝ }
+{
+    let h = hash(word);
+    if heads == HEADS {
+        return h;
+    }
+    h % FEW_HEADS
 }
 
 // The name of a spelling among the tokens of a chain, 0 where it is not there.

@@ -1,15 +1,20 @@
--- A name alone, test by test. Assumes nothing.
+-- A name alone, and one with a star before it, test by test. Assumes nothing.
 use mathlib.Core.Path.{_≡_, refl, sym, ap, _∙_}
-use mathlib.Core.Bool.{Bool, true, false, _&&_, not}
-use mathlib.Core.List.{List}
+use mathlib.Core.Bool.{true, false, _&&_, not}
+use mathlib.Core.List.{List, []}
 use Prim.Native.Nat.{ℕ, zero, suc, _+_, _<_}
 use native.Mathlib.Omega.{arith}
 use lib.Dec.{eqb}
 use lib.ListN.{length, getD}
-use Rattle.definition.specs.Kind.{isName, openBracket, openParen}
+use borrow.Author.Tests.{eq-eqb, ne-eqb}
+use Rattle.definition.specs.Kind.{isName, star, openBracket, openParen}
+use Rattle.definition.specs.Table.{newTable}
+use Rattle.definition.specs.Declarator.{qualifiersHere}
 use Rattle.table.specs.Reply.{Peek}
 use Rattle.table.proofs.Steps.{there}
-use Rattle.declarator_heads.specs.Heads.{isPlain}
+use Rattle.skipping.specs.declared.Qualified.{Qualified}
+use Rattle.skipping.specs.Passing.{tokens, standing, qualifiersOf}
+use Rattle.declarator_heads.specs.Heads.{isPlain, isPlainPointer}
 
 -- a name is a token
 pub name-there : {ks : List ℕ} {i k : ℕ} → Peek ks i k → isName k ≡ true → i < length ks
@@ -25,3 +30,11 @@ module _ {ks : List ℕ} {i k : ℕ} (p : Peek ks i k) where
   pub by-next : {n : ℕ} → isName k ≡ true → Peek ks (i + 1) n → (not (eqb n openBracket) && not (eqb n openParen)) ≡ isPlain ks i
   unfolding isPlain
   by-next e q = rw (ap isName (sym (p .is)) ∙ e, q .is)
+
+  pub no-star : (k ≡ star → ⊥) → isPlainPointer ks i ≡ false
+  unfolding isPlainPointer
+  no-star n = rw (ne-eqb (getD ks i 0) star (λ e. n (p .is ∙ e)))
+
+  pub by-name : {q : Qualified} → k ≡ star → qualifiersHere (tokens ks []) (standing (i + 1) newTable) ≡ (qualifiersOf q, standing (q .at) newTable) → isPlainPointer ks i ≡ isPlain ks (q .at)
+  unfolding isPlainPointer
+  by-name e f = rw (eq-eqb (getD ks i 0) star (sym (p .is) ∙ e), f)

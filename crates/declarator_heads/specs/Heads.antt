@@ -1,4 +1,4 @@
--- What is read before the name of a declarator: stars, and a parenthesis.
+-- What is read before the name of a declarator: stars, and a parenthesis. And declarators that need no steps to be kept.
 use mathlib.Core.Path.{_≡_}
 use mathlib.Core.Bool.{Bool, _&&_, not}
 use mathlib.Core.List.{List, [], _++_}
@@ -6,11 +6,11 @@ use Prim.Native.Nat.{ℕ, suc, _+_}
 use lib.Dec.{eqb}
 use lib.IntN.{ℤ}
 use lib.ListN.{length, getD}
-use Rattle.definition.specs.Kind.{isName, end, openBracket, openParen}
+use Rattle.definition.specs.Kind.{isName, end, star, openBracket, openParen}
 use Rattle.definition.specs.Token.{Tokens, left}
 use Rattle.definition.specs.Row.{Qualifiers}
-use Rattle.definition.specs.Table.{Table, Reads}
-use Rattle.definition.specs.Declarator.{starsFrom}
+use Rattle.definition.specs.Table.{Table, newTable, Reads}
+use Rattle.definition.specs.Declarator.{qualifiersHere, starsFrom}
 use Rattle.table.specs.Held.{InWords, Counts}
 use Rattle.table.specs.Reply.{Reply, ok, bad, Does}
 use Rattle.table.specs.declared.Cursor.{Cursor}
@@ -18,7 +18,7 @@ use Rattle.table.specs.declared.Step.{Step}
 use Rattle.table.specs.declared.Step.the-variants.{Done, Refused}
 use Rattle.steps.specs.declared.Steps.{Steps}
 use Rattle.steps.specs.Pending.{pending, Waiting}
-use Rattle.skipping.specs.Passing.{tokens}
+use Rattle.skipping.specs.Passing.{tokens, standing}
 use Rattle.declarator_heads.specs.declared.Declared.{Declared}
 
 -- the stars that stand here, after `used` steps
@@ -50,3 +50,7 @@ pub record Tells {A : Type 0} (f : Table → A) (c : Cursor) (w : List ℕ) (r :
 -- a name at i, and neither a bound nor a parameter list after it
 unfoldable pub isPlain : List ℕ → ℕ → Bool
 isPlain ks i = isName (getD ks i end) && (not (eqb (getD ks (i + 1) end) openBracket) && not (eqb (getD ks (i + 1) end) openParen))
+
+-- a star with its qualifiers at i, and such a name after them; the kinds alone decide where they end
+unfoldable pub isPlainPointer : List ℕ → ℕ → Bool
+isPlainPointer ks i = eqb (getD ks i end) star && isPlain ks (qualifiersHere (tokens ks []) (standing (i + 1) newTable) .1 .at)

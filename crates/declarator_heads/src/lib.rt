@@ -1,4 +1,4 @@
-// What is read before the name of a declarator: stars, and a parenthesis.
+// What is read before the name of a declarator: stars, and a parenthesis. And declarators that need no steps to be kept.
 use naming::name_at;
 use rows::Found;
 use rows::typedef_row;
@@ -25,7 +25,7 @@ ghost use Rattle.table.specs.Held.{state, Room};
 ghost use Rattle.words.specs.Meaning.{model};
 ghost use Rattle.naming.specs.Names.{NamesFit};
 ghost use Rattle.skipping.specs.Passing.{tokens};
-ghost use Rattle.declarator_heads.specs.Heads.{Stars, Tells, isPlain};
+ghost use Rattle.declarator_heads.specs.Heads.{Stars, Tells, isPlain, isPlainPointer};
 
 // A declarator: the name that it declares and where to read on, or a refusal; and its steps.
 pub struct Declared {
@@ -103,4 +103,15 @@ pub fn is_plain(kinds: &[u32], at: usize) -> bool
     }
     let next = kind_at(kinds, at + 1);
     (next != OPEN_BRACKET) & (next != OPEN_PAREN)
+}
+
+// One star with its qualifiers before such a name.
+pub fn is_plain_pointer(kinds: &[u32], at: usize) -> bool
+    ensures { λ r. ⌜ r ≡ isPlainPointer (now (kinds .entry)) at ⌝ }
+{
+    if kind_at(kinds, at) != STAR {
+        return false;
+    }
+    let q = qualifiers_here(kinds, at + 1);
+    is_plain(kinds, q.at)
 }

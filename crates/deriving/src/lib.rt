@@ -64,7 +64,7 @@ fn add_pointer(w: &mut [u32], d: &mut [u64], v: &mut [i64], c: Cursor, b: u32) -
 }
 
 // A star with its qualifiers.
-fn apply_pointer(
+pub fn apply_pointer(
     w: &mut [u32],
     d: &mut [u64],
     v: &mut [i64],

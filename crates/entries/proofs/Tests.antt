@@ -1,14 +1,22 @@
 -- Entries compared number by number. Assumes nothing.
 use mathlib.Core.Path.{_≡_, refl, sym, ap, _∙_}
 use mathlib.Core.Bool.{Bool, true, false, _&&_}
-use Prim.Native.Nat.{ℕ}
+use mathlib.Core.List.{List}
+use Prim.Native.Nat.{ℕ, _+_, _*_, _<_}
+use native.Mathlib.Omega.{arith}
 use lib.Dec.{eqb}
 use lib.IntN.{ℤ}
 use lib.Signed.{leZ}
 use borrow.Author.Tests.{eq-eqb, ne-eqb}
-use Rattle.definition.specs.Table.{Member, Value, Parameter}
+use lib.ListN.{length, getD}
+use Rattle.definition.specs.Limit.{maxParameters}
+use Rattle.definition.specs.Lent.{wordsLength}
+use Rattle.definition.specs.Table.{Table, Member, Value, Parameter}
+use Rattle.table.specs.Held.{InWords, parameterAt}
 use Rattle.definition.specs.Types.{widthNumber, sameMember, sameValue, sameParameter}
 use Rattle.table.proofs.Branch.{and-left, and-right}
+use Rattle.table.proofs.Columns.{parameter-read}
+use Rattle.table.proofs.Regions.{words-long}
 
 -- numbers that were read, x and y, are those that are meant, p and q
 module _ {x y p q : ℕ} (x-is : x ≡ p) (y-is : y ≡ q) where
@@ -27,6 +35,21 @@ fails b e = sym (and-left b e)
 
 pub holds : {a b c : Bool} → a ≡ true → c ≡ b → c ≡ (a && b)
 holds e f = sym (rw (e, ← f))
+
+-- a parameter's numbers as they stand in the slice
+module _ {t : Table} {w : List ℕ} (h : InWords t w) (i : ℕ) (p : i < maxParameters) where
+  pub type-is : getD w (30720 + 3 * i + 1) 0 ≡ parameterAt t i .type
+  type-is = parameter-read {b = 30720 + 3 * i + 1} (record { is = refl }) h i 1 p (omega arith) (omega arith)
+
+  pub name-is : getD w (30720 + 3 * i + 2) 0 ≡ parameterAt t i .name
+  name-is = parameter-read {b = 30720 + 3 * i + 2} (record { is = refl }) h i 2 p (omega arith) (omega arith)
+
+-- a slice that holds a table has all parameters, and no table has more of them
+pub all-parameters : {t : Table} {w : List ℕ} → InWords t w → length w < 43008 → ⊥
+all-parameters {t} {w} h p = let e : length w ≡ wordsLength = rw (h .are) (words-long t (h .fits)) in omega arith
+
+pub no-more : {t : Table} {w : List ℕ} {n : ℕ} → InWords t w → n ≡ length (t .parameters) → maxParameters < n → ⊥
+no-more h e p = omega (arith, h .fits .parameters)
 
 module _ (a b : Parameter) {x y : ℕ} (x-is : x ≡ a .type) (y-is : y ≡ b .type) where
   pub parameter-type-no : (x ≡ y → ⊥) → false ≡ sameParameter a b

@@ -1,23 +1,31 @@
 // The entries of two lists compared: "rows are equal as the Rust's types are", entry by entry. The entries of a list are the first so many, from
 // its first on, that carry its row, or its mark while the row is not known.
+use table::DECLARATIONS_AT;
+use table::MAX_PARAMETERS;
+use table::PARAMETER_WORDS;
+use table::PARAMETERS_AT;
 use table::member_name;
 use table::member_offset;
 use table::member_row;
 use table::member_type;
 use table::member_width;
-use table::parameter_name;
 use table::parameter_row;
-use table::parameter_type;
 use table::value_at;
 use table::value_name;
 use table::value_row;
 ghost use mathlib.Core.Path.{_≡_};
-ghost use Prim.Native.Nat.{ℕ};
-ghost use lib.ListN.{drop};
+ghost use Prim.Native.Nat.{ℕ, _≤_, _<_};
+ghost use lib.ListN.{length, drop};
+ghost use Rattle.definition.specs.Limit.{maxParameters};
 ghost use Rattle.definition.specs.Table.{carrying};
 ghost use Rattle.definition.specs.Types.{pairwise, sameMember, sameValue, sameParameter};
 ghost use Rattle.table.specs.Held.{noMember, noValue, noParameter, memberAt, valueAt, parameterAt};
 ghost use Rattle.entries.specs.Entries.{Next, MembersSay, ValuesSay, ParametersSay, MembersCompare, ValuesCompare, ParametersCompare};
+
+// Where the type and the name stand among the numbers of a parameter.
+const PARAMETER_TYPE: usize = 1;
+
+const PARAMETER_NAME: usize = 2;
 
 // ---- members
 
@@ -166,16 +174,22 @@ fn next_parameter(w: &[u32], count: usize, from: usize, row: u32) -> usize
     i
 }
 
+// In a slice that has all parameters.
 fn same_parameter(w: &[u32], a: usize, b: usize) -> bool
+    requires { ⌜ a < maxParameters ⌝ }
+    requires { ⌜ b < maxParameters ⌝ }
+    requires { ⌜ 43008 ≤ length (now w) ⌝ }
     ensures { λ r. ⌜ ParametersSay (λ t. sameParameter (parameterAt t a) (parameterAt t b)) (now (w .entry)) r ⌝ }
 {
-    if parameter_type(w, a) != parameter_type(w, b) {
+    let p = PARAMETERS_AT + PARAMETER_WORDS * a;
+    let q = PARAMETERS_AT + PARAMETER_WORDS * b;
+    if w[p + PARAMETER_TYPE] != w[q + PARAMETER_TYPE] {
         return false;
     }
-    parameter_name(w, a) == parameter_name(w, b)
+    w[p + PARAMETER_NAME] == w[q + PARAMETER_NAME]
 }
 
-// The parameters of a mark, from `first` on, and those of a row, from `other` on.
+// The parameters of a mark, from `first` on, and those of a row, from `other` on. No table has more of them, or stands in a slice shorter than all.
 pub fn same_parameters(
     w: &[u32],
     count: usize,
@@ -187,6 +201,12 @@ pub fn same_parameters(
 ) -> bool
     ensures { λ r. ⌜ ParametersCompare count (λ t. pairwise sameParameter (carrying (λ e. e .row) mark entries (drop first (t .parameters))) (carrying (λ e. e .row) row entries (drop other (t .parameters)))) (now (w .entry)) r ⌝ }
 {
+    if MAX_PARAMETERS < count {
+        return false;
+    }
+    if w.len() < DECLARATIONS_AT {
+        return false;
+    }
     let mut i = first;
     let mut j = other;
     let mut k = entries;

@@ -1,15 +1,15 @@
 -- From the tokens to the text, from the front of a slice to the whole, and to what the caller is told. Assumes nothing.
 use mathlib.Core.Path.{_≡_, refl, sym, ap, _∙_}
-use mathlib.Core.Bool.{Bool, true, false, _&&_}
+use mathlib.Core.Bool.{Bool, true, false, _&&_, _||_}
 use mathlib.Core.Option.{Option, none, some}
 use mathlib.Core.List.{List, _++_}
 use Prim.Native.Nat.{ℕ, _-_, _≤_, _<_}
 use native.Mathlib.Omega.{arith}
-use lib.Dec.{leb}
+use lib.Dec.{leb, ltb}
 use lib.IntN.{ℤ}
 use lib.ListN.{length, take, drop, replicate, length-append, length-replicate, take-append-drop}
 use lib.Seq.{take-at}
-use borrow.Author.Tests.{le-leb, lt-leb}
+use borrow.Author.Tests.{le-leb, lt-leb, leb-true, le-ltb}
 use Rattle.definition.specs.Answer.{Answer, got, refused, _>>=_}
 use Rattle.definition.specs.Text.{Bytes}
 use Rattle.definition.specs.Place.{Place, placeOf}
@@ -31,7 +31,7 @@ use Rattle.tokens.specs.declared.Lexing.{Lexing}
 use Rattle.tokens.specs.declared.Lexing.the-variants.{Done as Lexing·Done, Refused as Lexing·Refused}
 use Rattle.clearing.specs.Slices.{lent}
 use Rattle.entry.proofs.Front.{fresh-front, front-filled}
-use Rattle.entry.specs.Answers.{lexed, firstCursor, countsOf, Read, readTokens, Cleared, Enough, Left, Leaves, rejectedAt, out, shown, readLong, Tells, answered, Answers}
+use Rattle.entry.specs.Answers.{lexed, firstCursor, countsOf, Read, readTokens, Short, Cleared, Enough, Left, Leaves, rejectedAt, out, shown, readLong, Tells, answered, Answers}
 use Rattle.entry.specs.Answers as answers
 use Rattle.entry.specs.declared.Counts.{Counts}
 use Rattle.entry.specs.declared.Reading.{Reading}
@@ -79,6 +79,14 @@ module _ (text : Bytes) {ks ps ns : List ℕ} {r : Lexing} where
   lexes-no (columns.stop m′ at′ t e) {m} {at} q = let y : m′ ≡ m = cc in let o : at′ ≡ at = cc in t ∙ rw (y, o)
   lexes-no (columns.done x t e i j o) q = let y : _≡_ {A = ℕ} 0 1 = cc in absurd (omega arith)
 
+or-left : (a b : Bool) → (a || b) ≡ true → b ≡ false → a ≡ true
+or-left true b e f = refl
+or-left false b e f = sym f ∙ e
+
+-- the test of short texts
+pub short-is : (n : ℕ) → Short (leb n 256 || ltb 32768 n) n
+short-is n = record { fits = λ e. record { run = λ h. leb-true n 256 (or-left (leb n 256) (ltb 32768 n) e (le-ltb 32768 n h)) } }
+
 -- columns of zeros as long as a text may be
 module _ (n : ℕ) (text : Bytes) (room : length text ≤ 32768 → length text ≤ n) {ks ps ns : List ℕ} (a : ks ≡ replicate n 0) (b : ps ≡ replicate n 0) (c : ns ≡ replicate n 0) where
   long-as : (l : List ℕ) → l ≡ replicate n 0 → length l ≡ n
@@ -112,6 +120,10 @@ unfolding meant.readWith _>>=_
 text-refused text entry m n at e = answers.same n at (rw e) refl refl
 
 -- ---- slices of any length
+
+-- a front part that keeps its length keeps that of the whole
+pub front-long : {E : Type 0} (k : ℕ) (xs ys : List E) → length ys ≡ length (take k xs) → length (ys ++ drop k xs) ≡ length xs
+front-long {E} k xs ys e = omega (arith, e, length-append ys (drop k xs), length-append (take k xs) (drop k xs), ap (λ (l : List E). length l) (take-append-drop k xs))
 
 module _ (l : Lent) (w d : List ℕ) (v : List ℤ) (e : lent w d v ≡ zeroed l) where
   w-long : length w ≡ length (l .words)

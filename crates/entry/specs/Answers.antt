@@ -1,13 +1,13 @@
 -- What the entries answer, in the definition's terms.
 use mathlib.Core.Path.{_≡_}
-use mathlib.Core.Bool.{true, false}
+use mathlib.Core.Bool.{Bool, true, false}
 use mathlib.Core.List.{List}
 use Prim.Native.Nat.{ℕ, _≤_}
 use lib.IntN.{ℤ}
 use lib.ListN.{length}
 use Rattle.definition.specs.Answer.{Answer, got, refused, _>>=_}
 use Rattle.definition.specs.Refusal.{badCall}
-use Rattle.definition.specs.Limit.{maxNames}
+use Rattle.definition.specs.Limit.{maxText, maxNames}
 use Rattle.definition.specs.Place.{placeOf}
 use Rattle.definition.specs.Text.{Bytes}
 use Rattle.definition.specs.Token.{Lexed}
@@ -85,7 +85,15 @@ Reads entry x m = Read (readTokens entry x m)
 
 -- a text that is not longer is cut into columns of this length
 abbrev pub smallText : ℕ
-smallText = 1024
+smallText = 256
+
+-- a text that is not too long fits in them
+pub record ShortIf (n : ℕ) : Type 0 where
+  pub run : n ≤ maxText → n ≤ smallText
+
+-- the answer of a test of that
+pub record Short (r : Bool) (n : ℕ) : Type 0 where
+  pub fits : r ≡ true → ShortIf n
 
 -- ---- lent slices of any length
 

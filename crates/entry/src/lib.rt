@@ -15,7 +15,6 @@ use words::kinds::END;
 use words::model::Model;
 use words::model::ModelFound;
 ghost use mathlib.Core.Path.{_≡_};
-ghost use Prim.Native.Nat.{_≤_};
 ghost use lib.ListN.{length};
 ghost use Rattle.definition.specs.Token.{here};
 ghost use Rattle.definition.specs.Entry.{parse, readWith, wholeHeader, singleDeclaration};
@@ -27,7 +26,7 @@ ghost use Rattle.tokens.specs.Columns.{RoomIf, Zero};
 ghost use Rattle.clearing.specs.Slices.{lent};
 ghost use Rattle.definition.specs.Lent.{longEnough};
 ghost use Rattle.entry.specs.Walking.{Walkable};
-ghost use Rattle.entry.specs.Answers.{entryOf, lexed, firstCursor, countsFrom, Parses, Read, Reads, smallText, Cleared, Enough, Leaves, Tells, rejectedAt, out, answered, Answers};
+ghost use Rattle.entry.specs.Answers.{entryOf, lexed, firstCursor, countsFrom, Parses, Read, Reads, Short, ShortIf, Cleared, Enough, Leaves, Tells, rejectedAt, out, answered, Answers};
 
 // A lent slice must be as long.
 pub const WORDS: usize = 78848;
@@ -37,7 +36,7 @@ pub const WIDES: usize = 9216;
 pub const SIGNEDS: usize = 4096;
 
 // A text that is not longer is cut in columns of this length: the long ones cost more to clear than a short text to read.
-const SMALL_TEXT: usize = 1024;
+const SMALL_TEXT: usize = 256;
 
 // "`declaration` finds .. more than one name".
 const NOT_ONE_DECLARATION: u32 = 24;
@@ -240,95 +239,30 @@ fn read_columns(
     }
 }
 
-fn read_small(
-    entry: Entry,
-    text: &[u8],
-    m: Model,
-    w: &mut [u32],
-    d: &mut [u64],
-    v: &mut [i64],
-) -> Reading
-    requires { ⌜ length (now text) ≤ smallText ⌝ }
-    requires { ⌜ Encodes newTable firstCursor (now w) (now d) (now v) ⌝ }
-    ensures { λ r. ⌜ Read (readWith (model m) (entryOf entry) (now (text .entry))) (now (w .entry)) (now (d .entry)) (now (v .entry)) r (now (w .exit)) (now (d .exit)) (now (v .exit)) ⌝ }
-{
-    let mut kinds = [0u32; SMALL_TEXT];
-    let mut places = [0u32; SMALL_TEXT];
-    let mut numbers = [0u64; SMALL_TEXT];
-    read_columns(
-        entry,
-        text,
-        &mut kinds,
-        &mut places,
-        &mut numbers,
-        m,
-        w,
-        d,
-        v,
-    )
-}
-
-fn read_large(
-    entry: Entry,
-    text: &[u8],
-    m: Model,
-    w: &mut [u32],
-    d: &mut [u64],
-    v: &mut [i64],
-) -> Reading
-    requires { ⌜ Encodes newTable firstCursor (now w) (now d) (now v) ⌝ }
-    ensures { λ r. ⌜ Read (readWith (model m) (entryOf entry) (now (text .entry))) (now (w .entry)) (now (d .entry)) (now (v .entry)) r (now (w .exit)) (now (d .exit)) (now (v .exit)) ⌝ }
-{
-    let mut kinds = [0u32; MAX_TEXT];
-    let mut places = [0u32; MAX_TEXT];
-    let mut numbers = [0u64; MAX_TEXT];
-    read_columns(
-        entry,
-        text,
-        &mut kinds,
-        &mut places,
-        &mut numbers,
-        m,
-        w,
-        d,
-        v,
-    )
-}
-
-// A text read into a new table.
-fn read_text(
-    entry: Entry,
-    text: &[u8],
-    m: Model,
-    w: &mut [u32],
-    d: &mut [u64],
-    v: &mut [i64],
-) -> Reading
-    requires { ⌜ Encodes newTable firstCursor (now w) (now d) (now v) ⌝ }
-    ensures { λ r. ⌜ Read (readWith (model m) (entryOf entry) (now (text .entry))) (now (w .entry)) (now (d .entry)) (now (v .entry)) r (now (w .exit)) (now (d .exit)) (now (v .exit)) ⌝ }
-{
-    if text.len() <= SMALL_TEXT {
-        return read_small(entry, text, m, w, d, v);
-    }
-    read_large(entry, text, m, w, d, v)
-}
-
 // The same into the front of slices that may be longer.
 fn read_front(
     entry: Entry,
     text: &[u8],
+    kinds: &mut [u32],
+    places: &mut [u32],
+    numbers: &mut [u64],
     m: Model,
     w: &mut [u32],
     d: &mut [u64],
     v: &mut [i64],
 ) -> Reading
+    requires { ⌜ RoomIf (now text) (now kinds) (now places) (now numbers) ⌝ }
+    requires { ⌜ Zero (now kinds) (now places) (now numbers) (now kinds) (now places) (now numbers) ⌝ }
     requires { ⌜ Cleared (now w) (now d) (now v) ⌝ }
     requires { ⌜ Enough (now w) (now d) (now v) ⌝ }
     ensures { λ r. ⌜ Leaves (readWith (model m) (entryOf entry) (now (text .entry))) (now (w .entry)) (now (d .entry)) (now (v .entry)) r (now (w .exit)) (now (d .exit)) (now (v .exit)) ⌝ }
 {
-    read_text(
+    read_columns(
         entry,
         text,
+        kinds,
+        places,
+        numbers,
         m,
         &mut w[..WORDS],
         &mut d[..WIDES],
@@ -349,11 +283,16 @@ fn reject(text: &[u8], n: u32, offset: usize) -> Outcome
 fn read_with(
     entry: Entry,
     text: &[u8],
+    kinds: &mut [u32],
+    places: &mut [u32],
+    numbers: &mut [u64],
     m: Model,
     w: &mut [u32],
     d: &mut [u64],
     v: &mut [i64],
 ) -> Outcome
+    requires { ⌜ RoomIf (now text) (now kinds) (now places) (now numbers) ⌝ }
+    requires { ⌜ Zero (now kinds) (now places) (now numbers) (now kinds) (now places) (now numbers) ⌝ }
     requires { ⌜ Cleared (now w) (now d) (now v) ⌝ }
     ensures { λ r. ⌜ Tells (model m) (entryOf entry) (now (text .entry)) (now (w .entry)) (now (d .entry)) (now (v .entry)) r (now (w .exit)) (now (d .exit)) (now (v .exit)) ⌝ }
 {
@@ -366,7 +305,7 @@ fn read_with(
     if v.len() < SIGNEDS {
         return reject(text, BAD_CALL, 0);
     }
-    let r = read_front(entry, text, m, w, d, v);
+    let r = read_front(entry, text, kinds, places, numbers, m, w, d, v);
     match r {
         Reading::Done(counts) => Outcome::Accepted(counts),
         Reading::Untouched(n, offset) => reject(text, n, offset),
@@ -377,8 +316,41 @@ fn read_with(
     }
 }
 
-// In slices that are zero throughout.
-fn read_cleared(
+// In slices that are zero throughout: a text that needs no more than short columns.
+fn read_small(
+    entry: Entry,
+    text: &[u8],
+    number: u32,
+    w: &mut [u32],
+    d: &mut [u64],
+    v: &mut [i64],
+) -> Outcome
+    requires { ⌜ ShortIf (length (now text)) ⌝ }
+    requires { ⌜ Cleared (now w) (now d) (now v) ⌝ }
+    ensures { λ r. ⌜ Answers number (entryOf entry) (now (text .entry)) (now (w .entry)) (now (d .entry)) (now (v .entry)) r (now (w .exit)) (now (d .exit)) (now (v .exit)) ⌝ }
+{
+    let mut kinds = [0u32; SMALL_TEXT];
+    let mut places = [0u32; SMALL_TEXT];
+    let mut numbers = [0u64; SMALL_TEXT];
+    let found = Model::numbered(number);
+    match found {
+        ModelFound::Found(m) => read_with(
+            entry,
+            text,
+            &mut kinds,
+            &mut places,
+            &mut numbers,
+            m,
+            w,
+            d,
+            v,
+        ),
+        ModelFound::Unknown => reject(text, BAD_CALL, 0),
+    }
+}
+
+// Any text, in the same.
+fn read_large(
     entry: Entry,
     text: &[u8],
     number: u32,
@@ -389,13 +361,34 @@ fn read_cleared(
     requires { ⌜ Cleared (now w) (now d) (now v) ⌝ }
     ensures { λ r. ⌜ Answers number (entryOf entry) (now (text .entry)) (now (w .entry)) (now (d .entry)) (now (v .entry)) r (now (w .exit)) (now (d .exit)) (now (v .exit)) ⌝ }
 {
+    let mut kinds = [0u32; MAX_TEXT];
+    let mut places = [0u32; MAX_TEXT];
+    let mut numbers = [0u64; MAX_TEXT];
     let found = Model::numbered(number);
     match found {
-        ModelFound::Found(m) => read_with(entry, text, m, w, d, v),
+        ModelFound::Found(m) => read_with(
+            entry,
+            text,
+            &mut kinds,
+            &mut places,
+            &mut numbers,
+            m,
+            w,
+            d,
+            v,
+        ),
         ModelFound::Unknown => reject(text, BAD_CALL, 0),
     }
 }
 
+// Whether short columns do: a text that is too long is refused before it is cut.
+fn is_short(length: usize) -> bool
+    ensures { λ r. ⌜ Short r length ⌝ }
+{
+    (length <= SMALL_TEXT) | (MAX_TEXT < length)
+}
+
+// The choice of columns stands in each entry and not in a function between: a call touches every page of its frame, and long columns must lie in no frame on the way of a short text.
 fn read(
     entry: Entry,
     text: &[u8],
@@ -407,7 +400,10 @@ fn read(
     ensures { λ r. ⌜ out r (lent (now (w .exit)) (now (d .exit)) (now (v .exit))) ≡ answered (lent (now (w .entry)) (now (d .entry)) (now (v .entry))) number (entryOf entry) (now (text .entry)) ⌝ }
 {
     clear(w, d, v);
-    read_cleared(entry, text, number, w, d, v)
+    if is_short(text.len()) {
+        return read_small(entry, text, number, w, d, v);
+    }
+    read_large(entry, text, number, w, d, v)
 }
 
 // A whole header.
@@ -444,7 +440,10 @@ pub fn translation_unit_in_zeros(
     ensures { λ r. ⌜ out r (lent (now (w .exit)) (now (d .exit)) (now (v .exit))) ≡ answered (lent (now (w .entry)) (now (d .entry)) (now (v .entry))) model wholeHeader (now (text .entry)) ⌝ }
     ensures { λ r. ⌜ Walkable model (longEnough (lent (now (w .entry)) (now (d .entry)) (now (v .entry)))) wholeHeader (now (text .entry)) ⌝ }
 {
-    read_cleared(Entry::WholeHeader, text, model, w, d, v)
+    if is_short(text.len()) {
+        return read_small(Entry::WholeHeader, text, model, w, d, v);
+    }
+    read_large(Entry::WholeHeader, text, model, w, d, v)
 }
 
 // One declaration, in the same.
@@ -459,5 +458,8 @@ pub fn declaration_in_zeros(
     ensures { λ r. ⌜ out r (lent (now (w .exit)) (now (d .exit)) (now (v .exit))) ≡ answered (lent (now (w .entry)) (now (d .entry)) (now (v .entry))) model singleDeclaration (now (text .entry)) ⌝ }
     ensures { λ r. ⌜ Walkable model (longEnough (lent (now (w .entry)) (now (d .entry)) (now (v .entry)))) singleDeclaration (now (text .entry)) ⌝ }
 {
-    read_cleared(Entry::SingleDeclaration, text, model, w, d, v)
+    if is_short(text.len()) {
+        return read_small(Entry::SingleDeclaration, text, model, w, d, v);
+    }
+    read_large(Entry::SingleDeclaration, text, model, w, d, v)
 }

@@ -1,75 +1,58 @@
--- The table of words as the code keeps it: a word's slot, and the spelling and kind of each slot. Assumes nothing.
-use mathlib.Core.List.{List, [], _∷_}
+-- The table of words as the code keeps it: a word's slot, the spelling of each slot, and spellings and rows of slots as numbers. Assumes nothing.
+use mathlib.Core.Bool.{Bool, true, false}
+use mathlib.Core.List.{List, [], _∷_, map}
 use Prim.Native.Nat.{ℕ, _+_, _-_, _*_, _/_, _%_}
-use lib.ListN.{length, take, getD}
+use lib.Dec.{eqb}
+use lib.ListN.{length, take, drop, getD}
 use Rattle.definition.specs.Text.{Bytes, bytes, byteAt}
-use Rattle.definition.specs.Scan.{from}
+use Rattle.definition.specs.Word.{kindOf}
 
-unfoldable pub starts : List ℕ
-starts =
-    0 ∷ 0 ∷ 0 ∷ 69 ∷ 0 ∷ 0 ∷ 0 ∷ 13 ∷ 0 ∷ 0 ∷ 53 ∷ 0 ∷ 0 ∷ 0 ∷ 0 ∷ 0
-    ∷ 0 ∷ 0 ∷ 0 ∷ 0 ∷ 0 ∷ 0 ∷ 0 ∷ 0 ∷ 0 ∷ 280 ∷ 363 ∷ 0 ∷ 0 ∷ 0 ∷ 0 ∷ 0
-    ∷ 0 ∷ 284 ∷ 0 ∷ 377 ∷ 0 ∷ 0 ∷ 0 ∷ 298 ∷ 0 ∷ 242 ∷ 0 ∷ 0 ∷ 0 ∷ 0 ∷ 0 ∷ 432
-    ∷ 0 ∷ 0 ∷ 57 ∷ 261 ∷ 254 ∷ 0 ∷ 164 ∷ 24 ∷ 0 ∷ 0 ∷ 0 ∷ 0 ∷ 0 ∷ 0 ∷ 0 ∷ 0
-    ∷ 415 ∷ 0 ∷ 178 ∷ 0 ∷ 65 ∷ 0 ∷ 0 ∷ 0 ∷ 224 ∷ 0 ∷ 0 ∷ 447 ∷ 202 ∷ 173 ∷ 485 ∷ 0
-    ∷ 34 ∷ 0 ∷ 46 ∷ 80 ∷ 391 ∷ 0 ∷ 465 ∷ 357 ∷ 0 ∷ 0 ∷ 0 ∷ 0 ∷ 0 ∷ 407 ∷ 0 ∷ 49
-    ∷ 0 ∷ 0 ∷ 0 ∷ 274 ∷ 471 ∷ 139 ∷ 134 ∷ 0 ∷ 0 ∷ 0 ∷ 0 ∷ 0 ∷ 0 ∷ 0 ∷ 0 ∷ 0
-    ∷ 0 ∷ 0 ∷ 0 ∷ 0 ∷ 0 ∷ 0 ∷ 0 ∷ 0 ∷ 0 ∷ 0 ∷ 0 ∷ 0 ∷ 0 ∷ 0 ∷ 0 ∷ 0
-    ∷ 74 ∷ 0 ∷ 0 ∷ 0 ∷ 370 ∷ 0 ∷ 0 ∷ 0 ∷ 316 ∷ 147 ∷ 0 ∷ 338 ∷ 0 ∷ 478 ∷ 0 ∷ 0
-    ∷ 0 ∷ 0 ∷ 0 ∷ 212 ∷ 0 ∷ 456 ∷ 0 ∷ 0 ∷ 0 ∷ 0 ∷ 0 ∷ 0 ∷ 0 ∷ 0 ∷ 169 ∷ 0
-    ∷ 0 ∷ 0 ∷ 104 ∷ 0 ∷ 0 ∷ 0 ∷ 158 ∷ 0 ∷ 0 ∷ 0 ∷ 0 ∷ 0 ∷ 194 ∷ 0 ∷ 41 ∷ 0
-    ∷ 0 ∷ 501 ∷ 0 ∷ 185 ∷ 0 ∷ 0 ∷ 0 ∷ 0 ∷ 493 ∷ 0 ∷ 0 ∷ 0 ∷ 0 ∷ 0 ∷ 399 ∷ 0
-    ∷ 0 ∷ 0 ∷ 0 ∷ 0 ∷ 0 ∷ 0 ∷ 112 ∷ 0 ∷ 0 ∷ 0 ∷ 292 ∷ 0 ∷ 0 ∷ 0 ∷ 0 ∷ 325
-    ∷ 0 ∷ 0 ∷ 351 ∷ 0 ∷ 0 ∷ 0 ∷ 0 ∷ 0 ∷ 0 ∷ 0 ∷ 0 ∷ 0 ∷ 0 ∷ 0 ∷ 0 ∷ 0
-    ∷ 306 ∷ 0 ∷ 122 ∷ 62 ∷ 0 ∷ 440 ∷ 0 ∷ 0 ∷ 268 ∷ 94 ∷ 0 ∷ 0 ∷ 0 ∷ 232 ∷ 0 ∷ 0
-    ∷ 86 ∷ 0 ∷ 0 ∷ 0 ∷ 0 ∷ 0 ∷ 423 ∷ 0 ∷ 0 ∷ 0 ∷ 0 ∷ 0 ∷ 0 ∷ 384 ∷ 0 ∷ 0 ∷ []
-
-unfoldable pub sizes : List ℕ
-sizes =
-    0 ∷ 0 ∷ 0 ∷ 5 ∷ 0 ∷ 0 ∷ 0 ∷ 11 ∷ 0 ∷ 0 ∷ 4 ∷ 0 ∷ 0 ∷ 0 ∷ 0 ∷ 0
-    ∷ 0 ∷ 0 ∷ 0 ∷ 0 ∷ 0 ∷ 0 ∷ 0 ∷ 0 ∷ 0 ∷ 4 ∷ 7 ∷ 0 ∷ 0 ∷ 0 ∷ 0 ∷ 0
-    ∷ 0 ∷ 8 ∷ 0 ∷ 7 ∷ 0 ∷ 0 ∷ 0 ∷ 8 ∷ 0 ∷ 12 ∷ 0 ∷ 0 ∷ 0 ∷ 0 ∷ 0 ∷ 8
-    ∷ 0 ∷ 0 ∷ 5 ∷ 7 ∷ 7 ∷ 0 ∷ 5 ∷ 10 ∷ 0 ∷ 0 ∷ 0 ∷ 0 ∷ 0 ∷ 0 ∷ 0 ∷ 0
-    ∷ 8 ∷ 0 ∷ 7 ∷ 0 ∷ 4 ∷ 0 ∷ 0 ∷ 0 ∷ 8 ∷ 0 ∷ 0 ∷ 9 ∷ 10 ∷ 5 ∷ 8 ∷ 0
-    ∷ 7 ∷ 0 ∷ 3 ∷ 6 ∷ 8 ∷ 0 ∷ 6 ∷ 6 ∷ 0 ∷ 0 ∷ 0 ∷ 0 ∷ 0 ∷ 8 ∷ 0 ∷ 4
-    ∷ 0 ∷ 0 ∷ 0 ∷ 6 ∷ 7 ∷ 8 ∷ 5 ∷ 0 ∷ 0 ∷ 0 ∷ 0 ∷ 0 ∷ 0 ∷ 0 ∷ 0 ∷ 0
-    ∷ 0 ∷ 0 ∷ 0 ∷ 0 ∷ 0 ∷ 0 ∷ 0 ∷ 0 ∷ 0 ∷ 0 ∷ 0 ∷ 0 ∷ 0 ∷ 0 ∷ 0 ∷ 0
-    ∷ 6 ∷ 0 ∷ 13 ∷ 0 ∷ 7 ∷ 0 ∷ 0 ∷ 0 ∷ 9 ∷ 11 ∷ 0 ∷ 13 ∷ 0 ∷ 7 ∷ 0 ∷ 0
-    ∷ 0 ∷ 0 ∷ 0 ∷ 12 ∷ 0 ∷ 9 ∷ 0 ∷ 0 ∷ 0 ∷ 0 ∷ 0 ∷ 0 ∷ 0 ∷ 0 ∷ 4 ∷ 0
-    ∷ 0 ∷ 0 ∷ 8 ∷ 0 ∷ 0 ∷ 0 ∷ 6 ∷ 0 ∷ 0 ∷ 0 ∷ 0 ∷ 0 ∷ 8 ∷ 0 ∷ 5 ∷ 0
-    ∷ 0 ∷ 4 ∷ 0 ∷ 9 ∷ 0 ∷ 0 ∷ 0 ∷ 0 ∷ 8 ∷ 0 ∷ 0 ∷ 0 ∷ 0 ∷ 0 ∷ 8 ∷ 0
-    ∷ 0 ∷ 0 ∷ 0 ∷ 0 ∷ 0 ∷ 0 ∷ 10 ∷ 0 ∷ 0 ∷ 0 ∷ 6 ∷ 0 ∷ 0 ∷ 0 ∷ 0 ∷ 13
-    ∷ 0 ∷ 0 ∷ 6 ∷ 0 ∷ 0 ∷ 0 ∷ 0 ∷ 0 ∷ 0 ∷ 0 ∷ 0 ∷ 0 ∷ 0 ∷ 0 ∷ 0 ∷ 0
-    ∷ 10 ∷ 0 ∷ 12 ∷ 3 ∷ 0 ∷ 7 ∷ 0 ∷ 0 ∷ 6 ∷ 10 ∷ 0 ∷ 0 ∷ 0 ∷ 10 ∷ 0 ∷ 0
-    ∷ 8 ∷ 0 ∷ 0 ∷ 0 ∷ 0 ∷ 0 ∷ 9 ∷ 0 ∷ 0 ∷ 0 ∷ 0 ∷ 0 ∷ 0 ∷ 7 ∷ 0 ∷ 0 ∷ []
-
-unfoldable pub kinds : List ℕ
-kinds =
-    0 ∷ 0 ∷ 0 ∷ 30 ∷ 0 ∷ 0 ∷ 0 ∷ 3 ∷ 0 ∷ 0 ∷ 26 ∷ 0 ∷ 0 ∷ 0 ∷ 0 ∷ 0
-    ∷ 0 ∷ 0 ∷ 0 ∷ 0 ∷ 0 ∷ 0 ∷ 0 ∷ 0 ∷ 0 ∷ 46 ∷ 6 ∷ 0 ∷ 0 ∷ 0 ∷ 0 ∷ 0
-    ∷ 0 ∷ 47 ∷ 0 ∷ 8 ∷ 0 ∷ 0 ∷ 0 ∷ 48 ∷ 0 ∷ 41 ∷ 0 ∷ 0 ∷ 0 ∷ 0 ∷ 0 ∷ 15
-    ∷ 0 ∷ 0 ∷ 27 ∷ 43 ∷ 42 ∷ 0 ∷ 37 ∷ 3 ∷ 0 ∷ 0 ∷ 0 ∷ 0 ∷ 0 ∷ 0 ∷ 0 ∷ 0
-    ∷ 13 ∷ 0 ∷ 39 ∷ 0 ∷ 29 ∷ 0 ∷ 0 ∷ 0 ∷ 41 ∷ 0 ∷ 0 ∷ 17 ∷ 40 ∷ 39 ∷ 22 ∷ 0
-    ∷ 3 ∷ 0 ∷ 3 ∷ 32 ∷ 10 ∷ 0 ∷ 19 ∷ 5 ∷ 0 ∷ 0 ∷ 0 ∷ 0 ∷ 0 ∷ 12 ∷ 0 ∷ 25
-    ∷ 0 ∷ 0 ∷ 0 ∷ 45 ∷ 20 ∷ 35 ∷ 34 ∷ 0 ∷ 0 ∷ 0 ∷ 0 ∷ 0 ∷ 0 ∷ 0 ∷ 0 ∷ 0
-    ∷ 0 ∷ 0 ∷ 0 ∷ 0 ∷ 0 ∷ 0 ∷ 0 ∷ 0 ∷ 0 ∷ 0 ∷ 0 ∷ 0 ∷ 0 ∷ 0 ∷ 0 ∷ 0
-    ∷ 31 ∷ 0 ∷ 3 ∷ 0 ∷ 7 ∷ 0 ∷ 0 ∷ 0 ∷ 49 ∷ 35 ∷ 0 ∷ 51 ∷ 0 ∷ 21 ∷ 0 ∷ 0
-    ∷ 0 ∷ 0 ∷ 0 ∷ 40 ∷ 0 ∷ 18 ∷ 0 ∷ 0 ∷ 0 ∷ 0 ∷ 0 ∷ 0 ∷ 0 ∷ 0 ∷ 38 ∷ 0
-    ∷ 0 ∷ 0 ∷ 33 ∷ 0 ∷ 0 ∷ 0 ∷ 36 ∷ 0 ∷ 0 ∷ 0 ∷ 0 ∷ 0 ∷ 40 ∷ 0 ∷ 3 ∷ 0
-    ∷ 0 ∷ 24 ∷ 0 ∷ 39 ∷ 0 ∷ 0 ∷ 0 ∷ 0 ∷ 23 ∷ 0 ∷ 0 ∷ 0 ∷ 0 ∷ 0 ∷ 11 ∷ 0
-    ∷ 0 ∷ 0 ∷ 0 ∷ 0 ∷ 0 ∷ 0 ∷ 33 ∷ 0 ∷ 0 ∷ 0 ∷ 48 ∷ 0 ∷ 0 ∷ 0 ∷ 0 ∷ 50
-    ∷ 0 ∷ 0 ∷ 52 ∷ 0 ∷ 0 ∷ 0 ∷ 0 ∷ 0 ∷ 0 ∷ 0 ∷ 0 ∷ 0 ∷ 0 ∷ 0 ∷ 0 ∷ 0
-    ∷ 48 ∷ 0 ∷ 33 ∷ 28 ∷ 0 ∷ 16 ∷ 0 ∷ 0 ∷ 44 ∷ 32 ∷ 0 ∷ 0 ∷ 0 ∷ 41 ∷ 0 ∷ 0
-    ∷ 32 ∷ 0 ∷ 0 ∷ 0 ∷ 0 ∷ 0 ∷ 14 ∷ 0 ∷ 0 ∷ 0 ∷ 0 ∷ 0 ∷ 0 ∷ 9 ∷ 0 ∷ 0 ∷ []
-
--- all spellings, one after the other
-unfoldable pub letters : Bytes
-letters = bytes "__attribute____attribute__declspec__asm____asmasmvoidcharshortintlongfloatdoublesigned__signed__signed__unsigned__unsigned__unsigned___Bool_Complex__complex__structunionenumconst__const__const__volatile__volatile__volatile__restrict__restrict__restrict___Atomictypedefexternstaticautoregisterinline__inline__inline___Noreturn_Thread_local__extension__sizeofint8_tint16_tint32_tint64_tuint8_tuint16_tuint32_tuint64_tintmax_tuintmax_tintptr_tssize_tptrdiff_tuintptr_tsize_twchar_tchar8_tchar16_tchar32_tbool"
-
--- no two words have the same slot: by length, first, last and middle byte
+-- no two words have the same slot: by length, first, middle and last byte
 unfoldable pub slotOf : Bytes → ℕ
-slotOf w = (54 * (length w % 256) + 43 * byteAt w 0 + 46 * byteAt w (length w - 1) + 53 * byteAt w (length w / 2)) % 256
+slotOf w = (33 * (length w % 256) + 32 * byteAt w 0 + 691 * byteAt w (length w / 2) + 106 * byteAt w (length w - 1)) / 8 % 128
 
--- the spelling of a slot
+-- what stands in an empty slot: no word, and longer than each
+unfoldable pub none : Bytes
+none = 0 ∷ 0 ∷ 0 ∷ 0 ∷ 0 ∷ 0 ∷ 0 ∷ 0 ∷ 0 ∷ 0 ∷ 0 ∷ 0 ∷ 0 ∷ 0 ∷ 0 ∷ []
+
+unfoldable pub spellings : List Bytes
+spellings =
+    bytes "intmax_t" ∷ bytes "asm" ∷ bytes "void" ∷ none ∷ none ∷ none ∷ bytes "_Thread_local" ∷ bytes "union" ∷ none ∷ bytes "__attribute__"
+    ∷ bytes "__signed" ∷ none ∷ none ∷ bytes "__const" ∷ none ∷ bytes "__restrict__" ∷ none ∷ none ∷ none ∷ bytes "ssize_t"
+    ∷ none ∷ bytes "uint8_t" ∷ none ∷ none ∷ none ∷ bytes "__volatile" ∷ none ∷ bytes "_Bool" ∷ bytes "register" ∷ bytes "_Complex"
+    ∷ none ∷ none ∷ bytes "char8_t" ∷ bytes "float" ∷ bytes "int8_t" ∷ bytes "bool" ∷ none ∷ none ∷ none ∷ none ∷ bytes "static"
+    ∷ bytes "__const__" ∷ none ∷ bytes "uint32_t" ∷ bytes "_Atomic" ∷ bytes "__signed__" ∷ bytes "uint64_t" ∷ bytes "signed"
+    ∷ none ∷ none ∷ bytes "long" ∷ none ∷ bytes "wchar_t" ∷ bytes "__declspec" ∷ bytes "char16_t" ∷ none ∷ none ∷ bytes "__extension__"
+    ∷ none ∷ bytes "__volatile__" ∷ none ∷ bytes "char" ∷ bytes "const" ∷ bytes "__unsigned" ∷ bytes "sizeof" ∷ bytes "uintmax_t"
+    ∷ bytes "enum" ∷ none ∷ bytes "uintptr_t" ∷ none ∷ none ∷ bytes "__inline" ∷ bytes "typedef" ∷ bytes "__restrict" ∷ bytes "int16_t"
+    ∷ none ∷ none ∷ none ∷ bytes "int" ∷ none ∷ bytes "__asm__" ∷ none ∷ none ∷ bytes "ptrdiff_t" ∷ none ∷ bytes "short" ∷ bytes "volatile"
+    ∷ none ∷ bytes "__unsigned__" ∷ none ∷ bytes "__attribute" ∷ none ∷ none ∷ none ∷ bytes "__complex__" ∷ bytes "struct"
+    ∷ bytes "restrict" ∷ none ∷ bytes "unsigned" ∷ bytes "char32_t" ∷ bytes "inline" ∷ none ∷ bytes "_Noreturn" ∷ none ∷ none
+    ∷ bytes "intptr_t" ∷ none ∷ none ∷ none ∷ none ∷ none ∷ bytes "__asm" ∷ none ∷ none ∷ bytes "extern" ∷ bytes "double"
+    ∷ none ∷ none ∷ bytes "auto" ∷ bytes "int32_t" ∷ none ∷ bytes "size_t" ∷ bytes "int64_t" ∷ none ∷ none ∷ bytes "__inline__"
+    ∷ bytes "uint16_t" ∷ none ∷ []
+
 unfoldable pub spellingOf : ℕ → Bytes
-spellingOf h = take (getD sizes h 0) (from letters (getD starts h 0))
+spellingOf h = getD spellings h none
+
+-- numbers as one number, the first one lowest
+unfoldable pub packed : ℕ → List ℕ → ℕ
+packed base [] = 0
+packed base (x ∷ xs) = x + base * packed base xs
+
+unfoldable pub sizeRow : ℕ → ℕ
+sizeRow i = packed 16 (map length (take 16 (drop (16 * i) spellings)))
+
+unfoldable pub kindRow : ℕ → ℕ
+kindRow i = packed 256 (map kindOf (take 8 (drop (8 * i) spellings)))
+
+unfoldable pub firstLetters : ℕ → ℕ
+firstLetters h = packed 256 (take 8 (spellingOf h))
+
+unfoldable pub lastLetters : ℕ → ℕ
+lastLetters h = packed 256 (drop 8 (spellingOf h))
+
+-- bytes are the letters of a number
+unfoldable pub spells : ℕ → Bytes → Bool
+spells p [] = true
+spells p (b ∷ bs) = elim (eqb b (p % 256)) [ true ↦ spells (p / 256) bs | false ↦ false ]

@@ -1,811 +1,16 @@
-// The kind of a word, by its spelling.
-use attributes::starts_with;
+// The kind of a word, by its spelling. Numbers of a match and not arrays: the compiler makes tables of them, and writes an array anew at each use.
 ghost use mathlib.Core.Path.{_≡_};
-ghost use Prim.Native.Nat.{ℕ, _+_, _<_};
-ghost use lib.ListN.{length, getD};
+ghost use mathlib.Core.Bool.{Bool};
+ghost use Prim.Native.Nat.{ℕ, _<_};
+ghost use lib.ListN.{length};
 ghost use Rattle.definition.specs.Text.{byteAt};
 ghost use Rattle.definition.specs.Word.{kindOf};
-ghost use Rattle.keywords.specs.Slots.{starts, sizes, kinds, slotOf};
+ghost use Rattle.keywords.specs.Slots.{slotOf, spellingOf, sizeRow, kindRow, firstLetters, lastLetters, spells};
 
 const IDENTIFIER: u32 = 4;
 
-// Where each slot's spelling begins among the letters.
-const STARTS: [u16; 256] = [
-    0,
-    0,
-    0,
-    69,
-    0,
-    0,
-    0,
-    13,
-    0,
-    0,
-    53,
-    0,
-    0,
-    0,
-    0,
-    0,
-    0,
-    0,
-    0,
-    0,
-    0,
-    0,
-    0,
-    0,
-    0,
-    280,
-    363,
-    0,
-    0,
-    0,
-    0,
-    0,
-    0,
-    284,
-    0,
-    377,
-    0,
-    0,
-    0,
-    298,
-    0,
-    242,
-    0,
-    0,
-    0,
-    0,
-    0,
-    432,
-    0,
-    0,
-    57,
-    261,
-    254,
-    0,
-    164,
-    24,
-    0,
-    0,
-    0,
-    0,
-    0,
-    0,
-    0,
-    0,
-    415,
-    0,
-    178,
-    0,
-    65,
-    0,
-    0,
-    0,
-    224,
-    0,
-    0,
-    447,
-    202,
-    173,
-    485,
-    0,
-    34,
-    0,
-    46,
-    80,
-    391,
-    0,
-    465,
-    357,
-    0,
-    0,
-    0,
-    0,
-    0,
-    407,
-    0,
-    49,
-    0,
-    0,
-    0,
-    274,
-    471,
-    139,
-    134,
-    0,
-    0,
-    0,
-    0,
-    0,
-    0,
-    0,
-    0,
-    0,
-    0,
-    0,
-    0,
-    0,
-    0,
-    0,
-    0,
-    0,
-    0,
-    0,
-    0,
-    0,
-    0,
-    0,
-    0,
-    0,
-    74,
-    0,
-    0,
-    0,
-    370,
-    0,
-    0,
-    0,
-    316,
-    147,
-    0,
-    338,
-    0,
-    478,
-    0,
-    0,
-    0,
-    0,
-    0,
-    212,
-    0,
-    456,
-    0,
-    0,
-    0,
-    0,
-    0,
-    0,
-    0,
-    0,
-    169,
-    0,
-    0,
-    0,
-    104,
-    0,
-    0,
-    0,
-    158,
-    0,
-    0,
-    0,
-    0,
-    0,
-    194,
-    0,
-    41,
-    0,
-    0,
-    501,
-    0,
-    185,
-    0,
-    0,
-    0,
-    0,
-    493,
-    0,
-    0,
-    0,
-    0,
-    0,
-    399,
-    0,
-    0,
-    0,
-    0,
-    0,
-    0,
-    0,
-    112,
-    0,
-    0,
-    0,
-    292,
-    0,
-    0,
-    0,
-    0,
-    325,
-    0,
-    0,
-    351,
-    0,
-    0,
-    0,
-    0,
-    0,
-    0,
-    0,
-    0,
-    0,
-    0,
-    0,
-    0,
-    0,
-    306,
-    0,
-    122,
-    62,
-    0,
-    440,
-    0,
-    0,
-    268,
-    94,
-    0,
-    0,
-    0,
-    232,
-    0,
-    0,
-    86,
-    0,
-    0,
-    0,
-    0,
-    0,
-    423,
-    0,
-    0,
-    0,
-    0,
-    0,
-    0,
-    384,
-    0,
-    0,
-];
-
-// How long each slot's spelling is, 0 where the slot is empty.
-const SIZES: [u8; 256] = [
-    0,
-    0,
-    0,
-    5,
-    0,
-    0,
-    0,
-    11,
-    0,
-    0,
-    4,
-    0,
-    0,
-    0,
-    0,
-    0,
-    0,
-    0,
-    0,
-    0,
-    0,
-    0,
-    0,
-    0,
-    0,
-    4,
-    7,
-    0,
-    0,
-    0,
-    0,
-    0,
-    0,
-    8,
-    0,
-    7,
-    0,
-    0,
-    0,
-    8,
-    0,
-    12,
-    0,
-    0,
-    0,
-    0,
-    0,
-    8,
-    0,
-    0,
-    5,
-    7,
-    7,
-    0,
-    5,
-    10,
-    0,
-    0,
-    0,
-    0,
-    0,
-    0,
-    0,
-    0,
-    8,
-    0,
-    7,
-    0,
-    4,
-    0,
-    0,
-    0,
-    8,
-    0,
-    0,
-    9,
-    10,
-    5,
-    8,
-    0,
-    7,
-    0,
-    3,
-    6,
-    8,
-    0,
-    6,
-    6,
-    0,
-    0,
-    0,
-    0,
-    0,
-    8,
-    0,
-    4,
-    0,
-    0,
-    0,
-    6,
-    7,
-    8,
-    5,
-    0,
-    0,
-    0,
-    0,
-    0,
-    0,
-    0,
-    0,
-    0,
-    0,
-    0,
-    0,
-    0,
-    0,
-    0,
-    0,
-    0,
-    0,
-    0,
-    0,
-    0,
-    0,
-    0,
-    0,
-    0,
-    6,
-    0,
-    13,
-    0,
-    7,
-    0,
-    0,
-    0,
-    9,
-    11,
-    0,
-    13,
-    0,
-    7,
-    0,
-    0,
-    0,
-    0,
-    0,
-    12,
-    0,
-    9,
-    0,
-    0,
-    0,
-    0,
-    0,
-    0,
-    0,
-    0,
-    4,
-    0,
-    0,
-    0,
-    8,
-    0,
-    0,
-    0,
-    6,
-    0,
-    0,
-    0,
-    0,
-    0,
-    8,
-    0,
-    5,
-    0,
-    0,
-    4,
-    0,
-    9,
-    0,
-    0,
-    0,
-    0,
-    8,
-    0,
-    0,
-    0,
-    0,
-    0,
-    8,
-    0,
-    0,
-    0,
-    0,
-    0,
-    0,
-    0,
-    10,
-    0,
-    0,
-    0,
-    6,
-    0,
-    0,
-    0,
-    0,
-    13,
-    0,
-    0,
-    6,
-    0,
-    0,
-    0,
-    0,
-    0,
-    0,
-    0,
-    0,
-    0,
-    0,
-    0,
-    0,
-    0,
-    10,
-    0,
-    12,
-    3,
-    0,
-    7,
-    0,
-    0,
-    6,
-    10,
-    0,
-    0,
-    0,
-    10,
-    0,
-    0,
-    8,
-    0,
-    0,
-    0,
-    0,
-    0,
-    9,
-    0,
-    0,
-    0,
-    0,
-    0,
-    0,
-    7,
-    0,
-    0,
-];
-
-// The kind of each slot's spelling.
-const KINDS: [u8; 256] = [
-    0,
-    0,
-    0,
-    30,
-    0,
-    0,
-    0,
-    3,
-    0,
-    0,
-    26,
-    0,
-    0,
-    0,
-    0,
-    0,
-    0,
-    0,
-    0,
-    0,
-    0,
-    0,
-    0,
-    0,
-    0,
-    46,
-    6,
-    0,
-    0,
-    0,
-    0,
-    0,
-    0,
-    47,
-    0,
-    8,
-    0,
-    0,
-    0,
-    48,
-    0,
-    41,
-    0,
-    0,
-    0,
-    0,
-    0,
-    15,
-    0,
-    0,
-    27,
-    43,
-    42,
-    0,
-    37,
-    3,
-    0,
-    0,
-    0,
-    0,
-    0,
-    0,
-    0,
-    0,
-    13,
-    0,
-    39,
-    0,
-    29,
-    0,
-    0,
-    0,
-    41,
-    0,
-    0,
-    17,
-    40,
-    39,
-    22,
-    0,
-    3,
-    0,
-    3,
-    32,
-    10,
-    0,
-    19,
-    5,
-    0,
-    0,
-    0,
-    0,
-    0,
-    12,
-    0,
-    25,
-    0,
-    0,
-    0,
-    45,
-    20,
-    35,
-    34,
-    0,
-    0,
-    0,
-    0,
-    0,
-    0,
-    0,
-    0,
-    0,
-    0,
-    0,
-    0,
-    0,
-    0,
-    0,
-    0,
-    0,
-    0,
-    0,
-    0,
-    0,
-    0,
-    0,
-    0,
-    0,
-    31,
-    0,
-    3,
-    0,
-    7,
-    0,
-    0,
-    0,
-    49,
-    35,
-    0,
-    51,
-    0,
-    21,
-    0,
-    0,
-    0,
-    0,
-    0,
-    40,
-    0,
-    18,
-    0,
-    0,
-    0,
-    0,
-    0,
-    0,
-    0,
-    0,
-    38,
-    0,
-    0,
-    0,
-    33,
-    0,
-    0,
-    0,
-    36,
-    0,
-    0,
-    0,
-    0,
-    0,
-    40,
-    0,
-    3,
-    0,
-    0,
-    24,
-    0,
-    39,
-    0,
-    0,
-    0,
-    0,
-    23,
-    0,
-    0,
-    0,
-    0,
-    0,
-    11,
-    0,
-    0,
-    0,
-    0,
-    0,
-    0,
-    0,
-    33,
-    0,
-    0,
-    0,
-    48,
-    0,
-    0,
-    0,
-    0,
-    50,
-    0,
-    0,
-    52,
-    0,
-    0,
-    0,
-    0,
-    0,
-    0,
-    0,
-    0,
-    0,
-    0,
-    0,
-    0,
-    0,
-    48,
-    0,
-    33,
-    28,
-    0,
-    16,
-    0,
-    0,
-    44,
-    32,
-    0,
-    0,
-    0,
-    41,
-    0,
-    0,
-    32,
-    0,
-    0,
-    0,
-    0,
-    0,
-    14,
-    0,
-    0,
-    0,
-    0,
-    0,
-    0,
-    9,
-    0,
-    0,
-];
-
-fn wide8(x: u8) -> usize
-    ensures { λ r. ⌜ r ≡ x ⌝ }
-{
-    x as usize
-}
-
-fn wide16(x: u16) -> usize
-    ensures { λ r. ⌜ r ≡ x ⌝ }
-{
-    x as usize
-}
-
-fn wide32(x: u8) -> u32
-    ensures { λ r. ⌜ r ≡ x ⌝ }
-{
-    x as u32
-}
+// How many letters fit in a number.
+const LETTERS: usize = 8;
 
 // A byte of a word.
 fn letter(word: &[u8], i: usize) -> usize
@@ -818,51 +23,217 @@ fn letter(word: &[u8], i: usize) -> usize
 // The slot of a word.
 fn slot(word: &[u8]) -> usize
     requires { ⌜ 0 < length (now word) ⌝ }
-    ensures { λ r. ⌜ (r ≡ slotOf (now (word .entry))) × (r < 256) ⌝ }
+    ensures { λ r. ⌜ (r ≡ slotOf (now (word .entry))) × (r < 128) ⌝ }
 {
     let n = word.len();
     let a = letter(word, 0);
-    let b = letter(word, n - 1);
     let m = letter(word, n / 2);
-    (54 * (n % 256) + 43 * a + 46 * b + 53 * m) % 256
+    let b = letter(word, n - 1);
+    (33 * (n % 256) + 32 * a + 691 * m + 106 * b) / 8 % 128
 }
 
-fn start_at(h: usize) -> usize
-    requires { ⌜ h < 256 ⌝ }
-    ensures { λ r. ⌜ r ≡ getD starts h 0 ⌝ }
+// The lengths of the spellings of sixteen slots, four bits each.
+fn size_row(i: usize) -> u64
+    requires { ⌜ i < 8 ⌝ }
+    ensures { λ r. ⌜ r ≡ sizeRow i ⌝ }
 {
-    wide16(STARTS[h])
+    match i {
+        0 => 14951942926131786808,
+        1 => 18413072286014734335,
+        2 => 7541153979757971031,
+        3 => 11911968100274664703,
+        4 => 17582043769324827798,
+        5 => 7782215745036853239,
+        6 => 6917528546503461112,
+        _ => 17919813500406818559,
+    }
 }
 
+// The length of a slot's spelling.
 fn size_at(h: usize) -> usize
-    requires { ⌜ h < 256 ⌝ }
-    ensures { λ r. ⌜ r ≡ getD sizes h 0 ⌝ }
+    requires { ⌜ h < 128 ⌝ }
+    ensures { λ r. ⌜ r ≡ length (spellingOf h) ⌝ }
 {
-    wide8(SIZES[h])
+    ((size_row(h / 16) >> (h % 16 * 4)) % 16) as usize
 }
 
-fn kind_at(h: usize) -> u32
-    requires { ⌜ h < 256 ⌝ }
-    ensures { λ r. ⌜ r ≡ getD kinds h 0 ⌝ }
+// The kinds of the spellings of eight slots, eight bits each.
+fn kind_row(i: usize) -> u64
+    requires { ⌜ i < 16 ⌝ }
+    ensures { λ r. ⌜ r ≡ kindRow i ⌝ }
 {
-    wide32(KINDS[h])
+    match i {
+        0 => 2680209143533994765,
+        1 => 2955530153664447236,
+        2 => 289366189111772164,
+        3 => 289394961399687172,
+        4 => 289360691687923221,
+        5 => 2309256073879758637,
+        6 => 294426210142585860,
+        7 => 2388906732496892676,
+        8 => 3459894889152908852,
+        9 => 296116090793503019,
+        10 => 299519079499432963,
+        11 => 2603929424843965473,
+        12 => 302027254603514921,
+        13 => 217303097314381572,
+        14 => 517355422943544324,
+        _ => 291097919724458756,
+    }
+}
+
+// The kind of a slot's spelling.
+fn kind_at(h: usize) -> u32
+    requires { ⌜ h < 128 ⌝ }
+    ensures { λ r. ⌜ r ≡ kindOf (spellingOf h) ⌝ }
+{
+    ((kind_row(h / 8) >> (h % 8 * 8)) % 256) as u32
+}
+
+// The first eight letters of a slot's spelling, the first one lowest.
+fn first_letters(h: usize) -> u64
+    requires { ⌜ h < 128 ⌝ }
+    ensures { λ r. ⌜ r ≡ firstLetters h ⌝ }
+{
+    match h {
+        0 => 8385553391030660713, // intmax_t
+        1 => 7172961, // asm
+        2 => 1684631414, // void
+        6 => 6873726019613250655, // _Thread_
+        7 => 474315583093, // union
+        9 => 7091324932765867871, // __attrib
+        10 => 7234309766870425439, // __signed
+        13 => 32778015450816351, // __const
+        15 => 7598263560299503455, // __restri
+        19 => 32755986748502899, // ssize_t
+        21 => 32755793374636405, // uint8_t
+        25 => 7598805589635260255, // __volati
+        27 => 465726030431, // _Bool
+        28 => 8243122732010005874, // register
+        29 => 8675459487327273823, // _Complex
+        32 => 32755793340229731, // char8_t
+        33 => 499850898534, // float
+        34 => 127952317869673, // int8_t
+        35 => 1819242338, // bool
+        40 => 109304575259763, // static
+        41 => 6878249449053970271, // __const_
+        43 => 8385476227765266805, // uint32_t
+        44 => 27981941436596575, // _Atomic
+        45 => 7234309766870425439, // __signed
+        46 => 8385478439673424245, // uint64_t
+        47 => 110386806745459, // signed
+        50 => 1735290732, // long
+        52 => 32756042163577719, // wchar_t
+        53 => 8102939328728293215, // __declsp
+        54 => 8385480617187436643, // char16_t
+        57 => 8317697112710405983, // __extens
+        59 => 7598805589635260255, // __volati
+        61 => 1918986339, // char
+        62 => 500152823651, // const
+        63 => 7955443211268611935, // __unsign
+        64 => 112628629924211, // sizeof
+        65 => 6879355553541155189, // uintmax_
+        66 => 1836412517, // enum
+        68 => 6877687607286720885, // uintptr_
+        71 => 7308895159698677599, // __inline
+        72 => 28821929497491828, // typedef
+        73 => 7598263560299503455, // __restri
+        74 => 32755783661022825, // int16_t
+        78 => 7630441, // int
+        80 => 26845046479347551, // __asm__
+        83 => 6874294484070462576, // ptrdiff_
+        85 => 500136110195, // short
+        86 => 7308332243887091574, // volatile
+        88 => 7955443211268611935, // __unsign
+        90 => 7091324932765867871, // __attrib
+        94 => 7308339910638002015, // __comple
+        95 => 127970521019507, // struct
+        96 => 8386662871394903410, // restrict
+        98 => 7234309766870429301, // unsigned
+        99 => 8385476227730860131, // char32_t
+        100 => 111524889521769, // inline
+        102 => 8247626271659347551, // _Noretur
+        105 => 8385546875615604329, // intptr_t
+        111 => 470087196511, // __asm
+        114 => 121437607458917, // extern
+        115 => 111516182736740, // double
+        118 => 1869903201, // auto
+        119 => 32755766514708073, // int32_t
+        121 => 127953073236339, // size_t
+        122 => 32755775154974313, // int64_t
+        125 => 7308895159698677599, // __inline
+        126 => 8385480617221843317, // uint16_t
+        _ => 0,
+    }
+}
+
+// The letters of a slot's spelling after the eighth.
+fn last_letters(h: usize) -> u64
+    requires { ⌜ h < 128 ⌝ }
+    ensures { λ r. ⌜ r ≡ lastLetters h ⌝ }
+{
+    match h {
+        6 => 465490374508, // _Thread_local
+        9 => 409622377589, // __attribute__
+        15 => 1600091235, // __restrict__
+        25 => 25964, // __volatile
+        41 => 95, // __const__
+        45 => 24415, // __signed__
+        53 => 25445, // __declspec
+        57 => 409622966121, // __extension__
+        59 => 1600087404, // __volatile__
+        63 => 25701, // __unsigned
+        65 => 116, // uintmax_t
+        68 => 116, // uintptr_t
+        73 => 29795, // __restrict
+        83 => 116, // ptrdiff_t
+        88 => 1600087141, // __unsigned__
+        90 => 6648949, // __attribute
+        94 => 6250360, // __complex__
+        102 => 110, // _Noreturn
+        125 => 24415, // __inline__
+        _ => 0,
+    }
+}
+
+// The bytes of a part of a word are the letters of a number.
+fn spells(part: &[u8], letters: u64) -> bool
+    ensures { λ r. ⌜ r ≡ spells letters (now (part .entry)) ⌝ }
+{
+    let mut left = letters;
+    let mut k = 0;
+    while k < part.len() {
+        if letter(part, k) as u64 != left % 256 {
+            return false;
+        }
+        left = left / 256;
+        k += 1;
+    }
+    true
 }
 
 // The kind of a word.
 pub fn kind_of(word: &[u8]) -> u32
     ensures { λ r. ⌜ r ≡ kindOf (now (word .entry)) ⌝ }
 {
-    if word.len() == 0 {
+    let n = word.len();
+    if n == 0 {
         return IDENTIFIER;
     }
     let h = slot(word);
-    if size_at(h) != word.len() {
+    if size_at(h) != n {
         return IDENTIFIER;
     }
-    let letters =
-        b"__attribute____attribute__declspec__asm____asmasmvoidcharshortintlongfloatdoublesigned__signed__signed__unsigned__unsigned__unsigned___Bool_Complex__complex__structunionenumconst__const__const__volatile__volatile__volatile__restrict__restrict__restrict___Atomictypedefexternstaticautoregisterinline__inline__inline___Noreturn_Thread_local__extension__sizeofint8_tint16_tint32_tint64_tuint8_tuint16_tuint32_tuint64_tintmax_tuintmax_tintptr_tssize_tptrdiff_tuintptr_tsize_twchar_tchar8_tchar16_tchar32_tbool";
-    let start = start_at(h);
-    if starts_with(letters, start, word) {
+    if n <= LETTERS {
+        if spells(word, first_letters(h)) {
+            return kind_at(h);
+        }
+        return IDENTIFIER;
+    }
+    if !spells(&word[..LETTERS], first_letters(h)) {
+        return IDENTIFIER;
+    }
+    if spells(&word[LETTERS..], last_letters(h)) {
         return kind_at(h);
     }
     IDENTIFIER

@@ -9,9 +9,19 @@ ghost use Rattle.definition.specs.Text.{byteAt};
 ghost use Rattle.definition.specs.Scan.{from};
 ghost use Rattle.definition.specs.Mark.{pair, twoByteMarks, oneByteMarks, markAmong, markAt};
 ghost use Rattle.definition.specs.Quoted.{inQuotes};
-ghost use Rattle.marks.specs.Found.{mark};
+ghost use Rattle.marks.specs.Found.{mark, longer};
+
+const BANG: u32 = 33;
+
+const AMPERSAND: u32 = 38;
 
 const DOT: u32 = 46;
+
+const LESS: u32 = 60;
+
+const GREATER: u32 = 62;
+
+const BAR: u32 = 124;
 
 const QUOTE: u32 = 34;
 
@@ -19,147 +29,10 @@ const BACKSLASH: u32 = 92;
 
 const ELLIPSIS: u32 = 53;
 
-// The kind of the mark that each byte is, 0 for none.
-const ONE_BYTE: [u8; 128] = [
-    0,
-    0,
-    0,
-    0,
-    0,
-    0,
-    0,
-    0,
-    0,
-    0,
-    0,
-    0,
-    0,
-    0,
-    0,
-    0,
-    0,
-    0,
-    0,
-    0,
-    0,
-    0,
-    0,
-    0,
-    0,
-    0,
-    0,
-    0,
-    0,
-    0,
-    0,
-    0,
-    0,
-    77,
-    0,
-    0,
-    0,
-    79,
-    80,
-    0,
-    62,
-    63,
-    68,
-    74,
-    69,
-    75,
-    85,
-    78,
-    0,
-    0,
-    0,
-    0,
-    0,
-    0,
-    0,
-    0,
-    0,
-    0,
-    71,
-    70,
-    83,
-    73,
-    84,
-    72,
-    0,
-    0,
-    0,
-    0,
-    0,
-    0,
-    0,
-    0,
-    0,
-    0,
-    0,
-    0,
-    0,
-    0,
-    0,
-    0,
-    0,
-    0,
-    0,
-    0,
-    0,
-    0,
-    0,
-    0,
-    0,
-    0,
-    0,
-    64,
-    0,
-    65,
-    81,
-    0,
-    0,
-    0,
-    0,
-    0,
-    0,
-    0,
-    0,
-    0,
-    0,
-    0,
-    0,
-    0,
-    0,
-    0,
-    0,
-    0,
-    0,
-    0,
-    0,
-    0,
-    0,
-    0,
-    0,
-    0,
-    0,
-    0,
-    0,
-    66,
-    82,
-    67,
-    76,
-    0,
-];
 // A mark: its kind, 0 for none, and how many bytes it takes.
 pub struct Found {
     pub kind: u32,
     pub size: usize,
-}
-
-fn wide(b: u8) -> u32
-    ensures { λ r. ⌜ r ≡ b ⌝ }
-{
-    b as u32
 }
 
 // Three dots.
@@ -194,15 +67,54 @@ pub fn two_bytes(a: u32, b: u32) -> u32
     }
 }
 
-// The kind of a mark of one byte, 0 for none.
+// The kind of a mark of one byte, 0 for none. In parts so small that each becomes a table.
 pub fn one_byte(a: u32) -> u32
     ensures { λ r. ⌜ r ≡ markAmong oneByteMarks a ⌝ }
 {
-    if a < 128 {
-        let i = a as usize;
-        return wide(ONE_BYTE[i]);
+    if a < 64 {
+        return match a {
+            33 => 77,
+            37 => 79,
+            38 => 80,
+            40 => 62,
+            41 => 63,
+            42 => 68,
+            43 => 74,
+            44 => 69,
+            45 => 75,
+            46 => 85,
+            47 => 78,
+            58 => 71,
+            59 => 70,
+            60 => 83,
+            61 => 73,
+            62 => 84,
+            63 => 72,
+            _ => 0,
+        };
     }
-    0
+    if a < 96 {
+        return match a {
+            91 => 64,
+            93 => 65,
+            94 => 81,
+            _ => 0,
+        };
+    }
+    match a {
+        123 => 66,
+        124 => 82,
+        125 => 67,
+        126 => 76,
+        _ => 0,
+    }
+}
+
+// A byte with which a mark of two or three bytes begins.
+fn is_longer(a: u32) -> bool
+    ensures { λ r. ⌜ r ≡ longer a ⌝ }
+{
+    (a == BANG) | ((a == AMPERSAND) | ((a == DOT) | (((LESS <= a) & (a <= GREATER)) | (a == BAR))))
 }
 
 // The mark that stands at an offset.
@@ -210,13 +122,19 @@ pub fn mark_at(text: &[u8], at: usize) -> Found
     requires { ⌜ at < length (now text) ⌝ }
     ensures { λ r. ⌜ mark r ≡ markAt (from (now (text .entry)) at) ⌝ }
 {
+    let a = byte_at(text, at);
+    if !is_longer(a) {
+        return Found {
+            kind: one_byte(a),
+            size: 1,
+        };
+    }
     if is_ellipsis(text, at) {
         return Found {
             kind: ELLIPSIS,
             size: 3,
         };
     }
-    let a = byte_at(text, at);
     let two = two_bytes(a, byte_at(text, at + 1));
     if two == 0 {
         return Found {

@@ -1,7 +1,7 @@
 -- What `declarator`, `direct`, `suffix`, `suffixes` and `declared_type` answer, from what the functions that they call answer. Assumes nothing.
 use mathlib.Core.Path.{_≡_, refl, sym, ap, subst, _∙_}
 use mathlib.Core.Bool.{Bool, true, false}
-use mathlib.Core.List.{List, []}
+use mathlib.Core.List.{List, [], _∷_, _++_}
 use mathlib.Core.Logic.{_⊎_, inl, inr, ⊎-elim}
 use Prim.Native.Nat.{ℕ, suc, _+_, _-_, _≤_, _<_}
 use native.Mathlib.Omega.{arith}
@@ -17,6 +17,7 @@ use Rattle.definition.specs.Kind.{isName, openParen, openBracket, closeParen}
 use Rattle.definition.specs.Name.{noName}
 use Rattle.definition.specs.Token.{Tokens, kindAt, left}
 use Rattle.definition.specs.Model.{Model}
+use Rattle.definition.specs.Row.{Qualifiers}
 use Rattle.definition.specs.Table.{Table, State, Reads, skip}
 use Rattle.definition.specs.Grammar.{Declarator, named, Levels, needed}
 use Rattle.definition.specs.Grammar as Grammar
@@ -149,6 +150,17 @@ stars-starting o g = record { none = g .holds .len ∙ o .none; waiting = g .hol
 pub stars-held : {ks : List ℕ} {c e : Cursor} {s : Steps} {t : Declared} {w d : List ℕ} {v : List ℤ} {k : ℕ} → Stars ks c s t → t .answer ≡ Done e k → Held c w d v → Held e w d v
 stars-held {s = s} {w = w} {d} {v} g q h = held-on (g .does [] w d v (s .held + s .len) refl) h (ap (stars (g .read)) q)
 
+-- no stars
+no-length : {A : Type 0} (xs : List A) → length xs ≡ 0 → xs ≡ []
+no-length [] e = refl
+no-length (x ∷ xs) e = absurd (omega arith)
+
+-- what they would stand before is the whole
+before-none : {qs : List Qualifiers} (x : Answer (Declarator × State)) → qs ≡ [] → (x >>= (λ d. got (record { steps = starred qs (d .0 .steps); name = d .0 .name }, d .1))) ≡ x
+unfolding _>>=_ starred
+before-none (got d) e = rw e
+before-none (refused n p) e = refl
+
 module _ (ks ns : List ℕ) (m : Model) (room : ℕ) {c : Cursor} {s : Steps} (w d : List ℕ) (v : List ℤ) (o : Starting s) (z : room ≡ 0 → ⊥) {t : Declared} (g : Stars ks c s t) where
   read-stars : Does (starsHere (tokens ks ns) (s .held)) c w d v (stars (g .read) (t .answer)) w d v
   read-stars = g .does ns w d v (s .held) (omega (arith, o .none))
@@ -166,6 +178,22 @@ module _ (ks ns : List ℕ) (m : Model) (room : ℕ) {c : Cursor} {s : Steps} (w
       unfolding declarator₁
       direct-stop y = stops y (λ b h. by (a-declarator (tokens ks ns) m (s .held) (state c b) z)
           (call _ (read-stars .run b h) (ap (stars (g .read)) q) (λ b₁ h₁. refuse _ (rest .run b₁ h₁) (refused-is r y) refl)))
+
+      -- no star was read
+      module _ (y : t .steps .held ≡ s .held) where
+        none-read : g .read ≡ []
+        none-read = no-length (g .read) (omega (arith, g .holds .held, y))
+
+        pub unstarred : Declares (levels (tokens ks ns) m room .declarator (s .held)) c s w d v r w′ d′ v′
+        unfolding declarator₁
+        unstarred = record {
+          does = record {
+            run = λ b h. by (a-declarator (tokens ks ns) m (s .held) (state c b) z)
+                (call _ (read-stars .run b h) (ap (stars (g .read)) q) (λ b₁ h₁. by (before-none _ none-read) (rest .run b₁ h₁)));
+          };
+          stars = λ e₁ n₁ k₁. f .stars e₁ n₁ k₁ ∙ (ap (λ p. p .stars) (g .holds .all) ∙ ap (λ l. l ++ pending s .stars) none-read);
+          waits = λ e₁ n₁ k₁. subst (λ (i : ℕ). Waiting (r .steps) i) y (f .waits e₁ n₁ k₁);
+        }
 
       module _ {e′ : Cursor} {name : ℕ} (y : r .answer ≡ Done e′ name) where
         -- the stars that were read wait, and can be released

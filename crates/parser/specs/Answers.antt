@@ -9,7 +9,10 @@ use Rattle.definition.specs.Limit.{maxText, maxSteps}
 use Rattle.definition.specs.Table.{State, Reads}
 use Rattle.definition.specs.Specifier.{Specifiers as Specifiers·meant}
 use Rattle.definition.specs.Grammar.{Declarator}
-use Rattle.table.specs.Reply.{Reply, ok, bad, Nothing, Does, Moves}
+use Rattle.definition.specs.Token.{Tokens}
+use Rattle.definition.specs.Model.{Model}
+use Rattle.definition.specs.Reader.{levels}
+use Rattle.table.specs.Reply.{Reply, ok, bad, Nothing, Does, Moves, Runs}
 use Rattle.table.specs.declared.Cursor.{Cursor}
 use Rattle.table.specs.declared.Step.{Step}
 use Rattle.table.specs.declared.Step.the-variants.{Done, Refused}
@@ -18,6 +21,7 @@ use Rattle.steps.specs.declared.Steps.{Steps}
 use Rattle.steps.specs.Pending.{pending, Waiting}
 use Rattle.words.specs.Meaning.{specifiers}
 use Rattle.declarator_heads.specs.declared.Declared.{Declared}
+use Rattle.parser.specs.Pieces.{typedFrom}
 use Rattle.parser.specs.declared.Specified.{Specified}
 use Rattle.parser.specs.declared.Specified.the-variants.{Done as Specified·Done, Refused as Specified·Refused}
 use Rattle.parser.specs.declared.Typed.{Typed}
@@ -63,3 +67,7 @@ pub record Declares (f : Reads Declarator) (c : Cursor) (s : Steps) (w d : List 
 -- The same for a definition that counts rounds: with any number of them above l.
 pub record MovesIn (g : ℕ → State → Answer State) (l : ℕ) (c : Cursor) (w d : List ℕ) (v : List ℤ) (r : Reply Nothing) (w′ d′ : List ℕ) (v′ : List ℤ) : Type 0 where
   pub rounds : (f : ℕ) → l < f → Moves (g f) c w d v r w′ d′ v′
+
+-- A declarator that the tokens and two levels are enough for is read: the model, and how many levels are left, say nothing of it.
+pub record Types (ts : Tokens) (b : ℕ) (c : Cursor) (w d : List ℕ) (v : List ℤ) (r : Reply (ℕ × ℕ)) (w′ d′ : List ℕ) (v′ : List ℤ) : Type 0 where
+  pub of : (m : Model) (room : ℕ) → 2 ≤ room → Runs bothNumbers (typedFrom (levels ts m room) b) c w d v r w′ d′ v′

@@ -7,9 +7,11 @@ use bodies::add_body;
 use bodies::define_body;
 use declarator_heads::Declared;
 use declarator_heads::is_plain;
+use declarator_heads::is_plain_pointer;
 use declarator_heads::opens_declarator;
 use declarator_heads::stars;
 use deriving::apply;
+use deriving::apply_pointer;
 use enumerating::enumeration;
 use evaluating::TOO_DEEP;
 use fields::MISSING_NAME;
@@ -27,6 +29,7 @@ use parts::Bound;
 use parts::MISSING_MARK;
 use parts::array_bound;
 use rows::tag_row;
+use skipping::qualifiers_here;
 use specifier_words::has_base;
 use specifier_words::says_no_type;
 use specifier_words::with_word;
@@ -58,11 +61,12 @@ use words::kinds::OPEN_BRACE;
 use words::kinds::OPEN_BRACKET;
 use words::kinds::OPEN_PAREN;
 use words::kinds::SEMICOLON;
-use words::kinds::STAR;
 use words::kinds::UNION_WORD;
 use words::model::Model;
+use words::qualifiers::Qualifiers;
 use words::specifiers::Specifiers;
 ghost use mathlib.Core.Path.{_≡_};
+ghost use mathlib.Core.Bool.{true};
 ghost use Prim.Native.Nat.{suc, _≤_, _<_};
 ghost use lib.ListN.{length};
 ghost use Rattle.definition.specs.Limit.{maxMembers, maxParameters};
@@ -78,7 +82,8 @@ ghost use Rattle.words.specs.Meaning.{model};
 ghost use Rattle.steps.specs.Pending.{Waiting};
 ghost use Rattle.member_entries.specs.Ended.{laid};
 ghost use Rattle.parameter_entries.specs.Parameters.{suffix};
-ghost use Rattle.parser.specs.Answers.{Readable, specified, typed, bothNumbers, Starting, declaratorOf, Declares, MovesIn};
+ghost use Rattle.declarator_heads.specs.Heads.{isPlainPointer};
+ghost use Rattle.parser.specs.Answers.{Readable, specified, typed, bothNumbers, Starting, declaratorOf, Declares, MovesIn, Types};
 ghost use Rattle.parser.specs.Pieces.{typeRow, afterType, declaratorsIn, suffixStep, typedFrom};
 
 // Refusals.
@@ -539,9 +544,6 @@ fn declarator(
     if room == 0 {
         return Declared::new(Step::Refused(TOO_DEEP, c.at), s);
     }
-    if kind_at(kinds, c.at) != STAR {
-        return direct(kinds, numbers, w, d, v, c, m, s, room - 1);
-    }
     let used = s.held;
     let t = stars(kinds, c, s);
     let read = t.answer;
@@ -551,6 +553,9 @@ fn declarator(
     };
     let all = held.held;
     let r = direct(kinds, numbers, w, d, v, e, m, held, room - 1);
+    if all == used {
+        return r;
+    }
     let answer = r.answer;
     let pending = r.steps;
     let Step::Done(_, _) = answer else {
@@ -734,7 +739,37 @@ fn parameter(
     }
 }
 
-// A declarator of a base type: what it makes of the type, and its name. A name alone makes nothing of it, and needs no steps.
+// A name alone with one star before it: a pointer to the base type.
+fn pointer_type(
+    kinds: &[u32],
+    numbers: &[u64],
+    w: &mut [u32],
+    d: &mut [u64],
+    v: &mut [i64],
+    c: Cursor,
+    b: u32,
+) -> Typed
+    requires { ⌜ Held c (now w) (now d) (now v) ⌝ }
+    requires { ⌜ Readable (now kinds) (now numbers) ⌝ }
+    requires { ⌜ isPlainPointer (now kinds) (c .at) ≡ true ⌝ }
+    ensures { λ r. ⌜ Types (tokens (now (kinds .entry)) (now (numbers .entry))) b c (now (w .entry)) (now (d .entry)) (now (v .entry)) (typed r) (now (w .exit)) (now (d .exit)) (now (v .exit)) ⌝ }
+{
+    let star = c.at;
+    let q = qualifiers_here(kinds, star + 1);
+    let words = Qualifiers {
+        is_const: q.constant,
+        is_volatile: q.volatile,
+        is_restrict: q.restrict,
+    };
+    let at = q.at;
+    let r = apply_pointer(w, d, v, c.moved(at + 1), words, b);
+    match r {
+        Step::Done(e, n) => Typed::Done(e, n, name_at(numbers, at)),
+        Step::Refused(k, p) => Typed::Refused(k, p),
+    }
+}
+
+// A declarator of a base type: what it makes of the type, and its name. The two most frequent ones need no steps.
 pub fn declared_type(
     kinds: &[u32],
     numbers: &[u64],
@@ -753,6 +788,9 @@ pub fn declared_type(
     let at = c.at;
     if is_plain(kinds, at) & (NAME_LEVELS <= room) {
         return Typed::Done(c.moved(at + 1), b, name_at(numbers, at));
+    }
+    if is_plain_pointer(kinds, at) & (NAME_LEVELS <= room) {
+        return pointer_type(kinds, numbers, w, d, v, c, b);
     }
     let t = declarator(kinds, numbers, w, d, v, c, m, empty(), room);
     let answer = t.answer;

@@ -6,7 +6,7 @@ use Prim.Native.Nat.{ℕ, zero, suc, _+_, _-_, _≤_, _<_}
 use native.Mathlib.Nat.{add-zero}
 use native.Mathlib.Numerals.{add-one}
 use native.Mathlib.Omega.{arith}
-use borrow.Author.Tests.{eqb-true, eq-eqb, ne-eqb, le-leb, lt-leb}
+use borrow.Author.Tests.{eqb-true, eq-eqb, ne-eqb, le-leb, lt-leb, leb-true, leb-false}
 use lib.Dec.{eqb, leb}
 use lib.ListN.{length, drop, take, getD, drop-of-length-le, length-drop, List·getD-eq-default}
 use lib.Seq.{drop-cons, getD-drop, take-suc, take-all}
@@ -118,6 +118,31 @@ module _ (text : Bytes) (i : ℕ) where
   pub goes-on : begins 42 47 (from text i) ≡ false → 1 < length text - i → endsComment (from text i) ≡ false
   unfolding endsComment
   goes-on e h = rw (e, length-drop i text) (lt-leb _ _ h)
+
+-- the loop over a comment: up to the last byte
+module _ (text : Bytes) (at i : ℕ) (e : at + before endsComment (from text at) ≡ i + before endsComment (from text i)) where
+  module _ (more : i + 1 < length text) where
+    pub comment-closes : getD text i 0 ≡ 42 → getD text (i + 1) 0 ≡ 47 → i ≡ at + before endsComment (from text at)
+    comment-closes a b =
+        stops endsComment text at i (omega arith)
+        (closes text i (sym (begins-first 42 47 text i (sym (inside text i (omega arith)) ∙ a)) ∙ eq-eqb _ _ (sym (inside text (i + 1) more) ∙ b)))
+        e
+
+    goes : begins 42 47 (from text i) ≡ false → at + before endsComment (from text at) ≡ i + 1 + before endsComment (from text (i + 1))
+    goes b = moves endsComment text at i (omega arith) (goes-on text i b (omega arith)) e
+
+    pub comment-plain : (getD text i 0 ≡ 42 → ⊥) → at + before endsComment (from text at) ≡ i + 1 + before endsComment (from text (i + 1))
+    comment-plain a = goes (begins-not 42 47 text i (λ q. a (inside text i (omega arith) ∙ q)))
+
+    pub comment-star : getD text i 0 ≡ 42 → (getD text (i + 1) 0 ≡ 47 → ⊥) → at + before endsComment (from text at) ≡ i + 1 + before endsComment (from text (i + 1))
+    comment-star a b = goes (sym (begins-first 42 47 text i (sym (inside text i (omega arith)) ∙ a)) ∙ ne-eqb _ _ (λ q. b (inside text (i + 1) more ∙ q)))
+
+  pub comment-last : length text ≤ i + 1 → i ≡ at + before endsComment (from text at)
+  comment-last h = by (leb (length text) i) refl
+    where
+      by : (t : Bool) → leb (length text) i ≡ t → i ≡ at + before endsComment (from text at)
+      by true q = ends endsComment text at i (leb-true _ _ q) e
+      by false q = let k = leb-false _ _ q in stops endsComment text at i k (last-byte text i (omega arith)) e
 
 -- lines and columns: one byte more
 pub after-more : (p : Place) (l : Bytes) (b : ℕ) → afterAll p (l ++ (b ∷ [])) ≡ after (afterAll p l) b

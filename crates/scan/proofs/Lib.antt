@@ -1,4 +1,5 @@
 pub mod Going
 pub mod Table
 pub mod Past
+pub mod Classes
 pub mod Branch

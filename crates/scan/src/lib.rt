@@ -2,8 +2,9 @@
 ghost use mathlib.Core.Path.{_≡_};
 ghost use mathlib.Core.Bool.{Bool, not};
 ghost use Prim.Native.Nat.{ℕ, _+_, _<_};
+ghost use lib.Dec.{eqb};
 ghost use Rattle.definition.specs.Text.{byteAt};
-ghost use Rattle.definition.specs.Class.{classOf, isBlank, isWordByte};
+ghost use Rattle.definition.specs.Class.{mark, classOf, isBlank, isWordByte};
 ghost use Rattle.definition.specs.Scan.{from, before, begins};
 ghost use Rattle.definition.specs.Comment.{endsLine, endsComment, lineLength, commentEnd};
 ghost use Rattle.definition.specs.Directive.{endsWord};
@@ -23,143 +24,27 @@ pub const STAR: u32 = 42;
 
 pub const DOT: u32 = 46;
 
+const SPACE: u32 = 32;
+
+const NONE: u32 = 0;
+
 pub const BLANK: u32 = 1;
 
 pub const LETTER: u32 = 2;
 
 pub const DIGIT: u32 = 3;
 
-// The class of each byte: 0 none, 1 blank, 2 letter, 3 digit, 4 mark.
-const CLASSES: [u8; 128] = [
-    0,
-    0,
-    0,
-    0,
-    0,
-    0,
-    0,
-    0,
-    0,
-    1,
-    1,
-    1,
-    1,
-    1,
-    0,
-    0,
-    0,
-    0,
-    0,
-    0,
-    0,
-    0,
-    0,
-    0,
-    0,
-    0,
-    0,
-    0,
-    0,
-    0,
-    0,
-    0,
-    1,
-    4,
-    0,
-    0,
-    0,
-    4,
-    4,
-    0,
-    4,
-    4,
-    4,
-    4,
-    4,
-    4,
-    4,
-    4,
-    3,
-    3,
-    3,
-    3,
-    3,
-    3,
-    3,
-    3,
-    3,
-    3,
-    4,
-    4,
-    4,
-    4,
-    4,
-    4,
-    0,
-    2,
-    2,
-    2,
-    2,
-    2,
-    2,
-    2,
-    2,
-    2,
-    2,
-    2,
-    2,
-    2,
-    2,
-    2,
-    2,
-    2,
-    2,
-    2,
-    2,
-    2,
-    2,
-    2,
-    2,
-    2,
-    2,
-    4,
-    0,
-    4,
-    4,
-    2,
-    0,
-    2,
-    2,
-    2,
-    2,
-    2,
-    2,
-    2,
-    2,
-    2,
-    2,
-    2,
-    2,
-    2,
-    2,
-    2,
-    2,
-    2,
-    2,
-    2,
-    2,
-    2,
-    2,
-    2,
-    2,
-    2,
-    2,
-    4,
-    4,
-    4,
-    4,
-    0,
-];
+const MARK: u32 = 4;
+
+// Bit k says whether byte 64 + k is a letter or _.
+const LETTERS: u64 = 576460745995190270;
+
+// Bit k says whether a mark begins with byte k.
+const LOW_MARKS: u64 = 18158794493929717760;
+
+// Bit k says whether a mark begins with byte 64 + k.
+const HIGH_MARKS: u64 = 8646911286296182784;
+
 // A place in a text, counted from 1.
 pub struct Spot {
     pub line: usize,
@@ -196,34 +81,60 @@ pub fn begins(text: &[u8], at: usize, a: u32, b: u32) -> bool
     false
 }
 
-// The class of a byte.
-pub fn class_of(b: u32) -> u32
-    ensures { λ r. ⌜ r ≡ classOf b ⌝ }
-{
-    if b < 128 {
-        let i = b as usize;
-        return wide(CLASSES[i]);
-    }
-    0
-}
-
 pub fn is_blank(b: u32) -> bool
     ensures { λ r. ⌜ r ≡ isBlank b ⌝ }
 {
-    class_of(b) == BLANK
+    ((9 <= b) & (b <= 13)) | (b == SPACE)
 }
 
 pub fn is_word_byte(b: u32) -> bool
     ensures { λ r. ⌜ r ≡ isWordByte b ⌝ }
 {
-    let k = class_of(b);
-    k == LETTER || k == DIGIT
+    if b < 64 {
+        return (48 <= b) & (b <= 57);
+    }
+    if b < 128 {
+        return (LETTERS >> (b % 64)) % 2 == 1;
+    }
+    false
 }
 
 pub fn is_number_byte(b: u32) -> bool
     ensures { λ r. ⌜ r ≡ isNumberByte b ⌝ }
 {
-    is_word_byte(b) || b == DOT
+    is_word_byte(b) | (b == DOT)
+}
+
+// A byte with which a mark begins.
+fn is_mark(b: u32) -> bool
+    ensures { λ r. ⌜ r ≡ eqb (classOf b) mark ⌝ }
+{
+    if b < 64 {
+        return (LOW_MARKS >> b) % 2 == 1;
+    }
+    if b < 128 {
+        return (HIGH_MARKS >> (b % 64)) % 2 == 1;
+    }
+    false
+}
+
+// The class of a byte.
+pub fn class_of(b: u32) -> u32
+    ensures { λ r. ⌜ r ≡ classOf b ⌝ }
+{
+    if is_word_byte(b) {
+        if b < 64 {
+            return DIGIT;
+        }
+        return LETTER;
+    }
+    if is_blank(b) {
+        return BLANK;
+    }
+    if is_mark(b) {
+        return MARK;
+    }
+    NONE
 }
 
 // Where the word that goes on at an offset ends.
@@ -286,13 +197,16 @@ pub fn line_end(text: &[u8], at: usize) -> usize
 pub fn comment_end(text: &[u8], at: usize) -> usize
     ensures { λ r. ⌜ r ≡ at + before endsComment (from (now (text .entry)) at) ⌝ }
 {
+    if text.len() == 0 {
+        return at;
+    }
+    let last = text.len() - 1;
     let mut i = at;
-    while i < text.len() {
-        if text.len() - i <= 1 {
-            return i;
-        }
-        if begins(text, i, STAR, SLASH) {
-            return i;
+    while i < last {
+        if wide(text[i]) == STAR {
+            if wide(text[i + 1]) == SLASH {
+                return i;
+            }
         }
         i += 1;
     }

@@ -4,7 +4,7 @@ use mathlib.Core.Bool.{Bool, true, false}
 use mathlib.Core.List.{List, [], _∷_, _++_, map, map-append, append-assoc}
 use Prim.Native.Nat.{ℕ, zero, suc, _+_, _-_, _≤_, _<_}
 use native.Mathlib.Omega.{arith}
-use lib.ListN.{length, getD, set, take, drop, replicate, length-append, length-set, length-map, length-replicate}
+use lib.ListN.{length, getD, set, take, drop, replicate, length-append, length-set, length-map}
 use lib.Seq.{set-at, getD-set-other}
 use Rattle.definition.specs.Answer.{Answer, got, refused}
 use Rattle.definition.specs.Text.{Bytes}
@@ -17,7 +17,7 @@ use Rattle.cutting.specs.declared.Piece.the-variants.{Skip, Token as Piece·Tok
 use Rattle.cutting.proofs.Steps.{via, halt}
 use Rattle.tokens.specs.Columns.{padded, Holds, Fills, Room, Zero, Rest}
 use Rattle.definition.specs.Kind.{isName}
-use Rattle.chains.specs.Chain.{bare, Chained}
+use Rattle.chains.specs.Chain.{HeadCount, bare, Chained}
 use Rattle.chains.proofs.Kept.{chained-plain}
 use Rattle.chains.proofs.Steps.{bare-set}
 use Rattle.tokens.specs.Names.{Finds, Searches, Stores}
@@ -102,7 +102,7 @@ module _ (text : Bytes) (at : ℕ) (line : Bool) (count : ℕ) (ks ps ns : List 
   pub go-count : Room text ks ps ns → (count < length ks) × (count < length ps) × (count < length ns)
   go-count room = let w = g .few in let a = room .fits in let b = room .kinds in let c = room .places in let d = room .numbers in (omega arith, omega arith, omega arith)
 
-  pub go-search : (k to : ℕ) → r ≡ Name k to → Room text ks ps ns → (ls heads : List ℕ) → ps ≡ map bare ls → length heads ≡ 4096 → Chained text ks ls ns heads count
+  pub go-search : (k to : ℕ) → r ≡ Name k to → Room text ks ps ns → (ls heads : List ℕ) → ps ≡ map bare ls → HeadCount (length heads) → Chained text ks ls ns heads count
       → Searches text ks ls ns heads count at to
   go-search k to e room ls heads same l chained =
       let f = (rw e at (cuts .fine)) in
@@ -248,12 +248,12 @@ bare-front (suc count) [] h = refl
 bare-front (suc count) (x ∷ ps) h = ap (λ (l : List ℕ). bare x ∷ l) (bare-front count ps (λ i p. h (suc i) (omega arith)))
 
 -- the loop with the links
-pub link-start : (text : Bytes) (ks ps ns heads : List ℕ) → Room text ks ps ns → Zero ks ps ns ks ps ns → heads ≡ replicate 4096 0 → Linked text 0 true 0 ks ps ns heads (cut text)
-link-start text ks ps ns heads room z e = record {
+pub link-start : (text : Bytes) (ks ps ns heads : List ℕ) → Room text ks ps ns → Zero ks ps ns ks ps ns → HeadCount (length heads) → heads ≡ replicate (length heads) 0 → Linked text 0 true 0 ks ps ns heads (cut text)
+link-start text ks ps ns heads room z l e = record {
   going = go-start text ks (map bare ps) ns (zero-bare ks ps ns z);
   room = room;
-  hashes = ap (λ (x : List ℕ). length x) e ∙ length-replicate {A = ℕ} 4096 0;
-  chained = chained-start text ks ps ns heads 4096 e;
+  hashes = l;
+  chained = chained-start text ks ps ns heads (length heads) e;
   rest = λ i p. zeros-rest ps (length ps) (z .places) i;
 }
 

@@ -9,7 +9,7 @@ use Rattle.definition.specs.Text.{Bytes}
 use Rattle.definition.specs.Scan.{from}
 use Rattle.definition.specs.Name.{nameOf}
 use Rattle.chains.specs.Names.{spelledBy, isNameOf}
-use Rattle.chains.specs.Chain.{hashed, bare, nameOn, Reach, Walks}
+use Rattle.chains.specs.Chain.{slot, bare, nameOn, Reach, Walks}
 use Rattle.chains.proofs.Found.{name-was, name-is, spelled-new}
 use Rattle.chains.proofs.Steps.{Met, met, none, on-met, bare-set}
 use Rattle.chains.proofs.Kept.{chained-known, chained-new}
@@ -24,7 +24,7 @@ module _ (text : Bytes) (ks ps ns heads : List ℕ) (count at end : ℕ) (s : Se
       let a = s .kinds in let b = s .places in let c = s .numbers in let l = s .chained .low h in
       record { kinds = omega arith; places = omega arith; numbers = omega arith; on = s .on; ends = s .ends; starts = omega arith; inside = s .inside; falls = s .chained .falls }
 
-  module _ (h head r : ℕ) (is : h ≡ hashed 0 word) (starts : head ≡ getD heads h 0) where
+  module _ (h head r : ℕ) (is : h ≡ slot word (length heads)) (starts : head ≡ getD heads h 0) where
     -- where the chain has no token of this spelling, no token has it
     none-met : ((j : ℕ) → Reach ps head j → isNameOf text word (getD ks j 0) (getD ns j 0) ≡ false) → (j : ℕ) → j < count → (t : Bool)
         → isNameOf text word (getD ks j 0) (getD ns j 0) ≡ t → isNameOf text word (getD ks j 0) (getD ns j 0) ≡ false
@@ -32,7 +32,7 @@ module _ (text : Bytes) (ks ps ns heads : List ℕ) (count at end : ℕ) (s : Se
     none-met f j p true e =
         let b = name-was text word (getD ks j 0) (getD ns j 0) e in
         let u = s .chained .chain j p (b .0) in
-        let q : getD heads (hashed 0 (spelledBy text (getD ns j 0))) 0 ≡ head = ap (λ (w : Bytes). getD heads (hashed 0 w) 0) (sym (b .1)) ∙ (ap (λ (x : ℕ). getD heads x 0) (sym is) ∙ sym starts) in
+        let q : getD heads (slot (spelledBy text (getD ns j 0)) (length heads)) 0 ≡ head = ap (λ (w : Bytes). getD heads (slot w (length heads)) 0) (sym (b .1)) ∙ (ap (λ (x : ℕ). getD heads x 0) (sym is) ∙ sym starts) in
         let y = f (u .0) (rw q at (u .1)) in
         let z = name-is text word (getD ks (u .0) 0) (getD ns (u .0) 0) (u .3) (ap (λ (n : ℕ). spelledBy text n) (u .2) ∙ sym (b .1)) in
         let x = sym z ∙ y in
@@ -64,7 +64,7 @@ module _ (text : Bytes) (ks ps ns heads : List ℕ) (count at end : ℕ) (s : Se
             raw = b;
             places = ap (λ (x : List ℕ). map bare x) b ∙ bare-set ps count at at (omega arith);
             numbers = c;
-            hashes = ap (λ (x : List ℕ). length x) d ∙ s .hashes;
+            hashes = rw d (s .hashes);
             chained = rw (a, b, c, d) (chained-known text ks ps ns heads count kind at r (s .chained) (s .places) (s .kinds) (s .numbers) (omega arith) j p (u .0) q);
           }
 
@@ -74,9 +74,9 @@ module _ (text : Bytes) (ks ps ns heads : List ℕ) (count at end : ℕ) (s : Se
       -- with a new one
       pub stored-new : r ≡ 0 → (v n : ℕ) → v ≡ 65536 * head + at → n ≡ nameOf at (end - at)
           → ks′ ≡ set ks count kind → ps′ ≡ set ps count v → ns′ ≡ set ns count n → heads′ ≡ set heads h (count + 1)
-          → h < 4096 → Stores text ks ps ns count kind at end ks′ ps′ ns′ heads′
+          → h < length heads → Stores text ks ps ns count kind at end ks′ ps′ ns′ heads′
       stored-new z v n x y a b c d lh =
-          let o = s .on in let t = s .ends in let l = s .short in let k = s .hashes in
+          let o = s .on in let t = s .ends in let l = s .short in
           let w = spelled-new text at end n (s .on) (s .ends) (s .short) y in
           record {
             number = n;
@@ -86,6 +86,6 @@ module _ (text : Bytes) (ks ps ns heads : List ℕ) (count at end : ℕ) (s : Se
             raw = b;
             places = ap (λ (i : List ℕ). map bare i) b ∙ bare-set ps count v at (omega arith);
             numbers = c;
-            hashes = ap (λ (i : List ℕ). length i) d ∙ (length-set heads h (count + 1) ∙ s .hashes);
-            chained = rw (a, b, c, d) (chained-new text ks ps ns heads count kind v n (s .chained) (s .places) (s .kinds) (s .numbers) h (omega arith) (is ∙ ap (hashed 0) (sym w)) (omega arith));
+            hashes = rw (ap (λ (i : List ℕ). length i) d ∙ length-set heads h (count + 1)) (s .hashes);
+            chained = rw (a, b, c, d) (chained-new text ks ps ns heads count kind v n (s .chained) (s .places) (s .kinds) (s .numbers) h lh (is ∙ ap (λ (i : Bytes). slot i (length heads)) (sym w)) (omega arith));
           }

@@ -10,7 +10,7 @@ use Rattle.definition.specs.Token.{Token}
 use Rattle.definition.specs.Spelling.{Spelling}
 use Rattle.definition.specs.Cut.{Cutting, cutAll}
 use Rattle.cutting.specs.Pieces.{state}
-use Rattle.chains.specs.Chain.{bare, Chained}
+use Rattle.chains.specs.Chain.{HeadCount, bare, Chained}
 use Rattle.tokens.specs.Columns.{Holds, Room}
 use Rattle.tokens.specs.Names.{Named}
 
@@ -29,6 +29,6 @@ pub record Going (text : Bytes) (at : ℕ) (line : Bool) (count : ℕ) (ks ps ns
 pub record Linked (text : Bytes) (at : ℕ) (line : Bool) (count : ℕ) (ks ps ns heads : List ℕ) (whole : Answer Cutting) : Type 0 where
   pub going : Going text at line count ks (map bare ps) ns whole
   pub room : Room text ks ps ns
-  pub hashes : length heads ≡ 4096
+  pub hashes : HeadCount (length heads)
   pub chained : Chained text ks ps ns heads count
   pub rest : (i : ℕ) → count ≤ i → getD ps i 0 ≡ 0

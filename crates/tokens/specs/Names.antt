@@ -10,14 +10,14 @@ use Rattle.definition.specs.Kind.{isName}
 use Rattle.definition.specs.Name.{nameOf}
 use Rattle.definition.specs.Spelling.{Spelling, knownName}
 use Rattle.chains.specs.Names.{spelledBy, Inside, isNameOf}
-use Rattle.chains.specs.Chain.{bare, Chained}
+use Rattle.chains.specs.Chain.{HeadCount, bare, Chained}
 
 -- what the search needs
 pub record Searches (text : Bytes) (ks ps ns heads : List ℕ) (count at end : ℕ) : Type 0 where
   pub kinds : count < length ks
   pub places : count < length ps
   pub numbers : count < length ns
-  pub hashes : length heads ≡ 4096
+  pub hashes : HeadCount (length heads)
   pub few : count ≤ at
   pub on : at < end
   pub ends : end ≤ length text
@@ -40,7 +40,7 @@ pub record Stores (text : Bytes) (ks ps ns : List ℕ) (count kind at end : ℕ)
   pub raw : ps′ ≡ set ps count linked
   pub places : map bare ps′ ≡ set (map bare ps) count at
   pub numbers : ns′ ≡ set ns count number
-  pub hashes : length heads′ ≡ 4096
+  pub hashes : HeadCount (length heads′)
   pub chained : Chained text ks′ ps′ ns′ heads′ (count + 1)
 
 -- a token's number is the name that its spelling was given

@@ -1,9 +1,10 @@
 // A text cut into tokens, in three columns that the caller lends: kinds, places and numbers.
+use chains::FEW_HEADS;
 use chains::HEADS;
 use chains::LINK;
 use chains::NAME_LENGTH;
 use chains::bare;
-use chains::hash;
+use chains::slot;
 use chains::walk;
 use clearing::clear_u32;
 use clearing::clear_u64;
@@ -13,10 +14,10 @@ use scan::byte_at;
 ghost use mathlib.Core.Path.{_≡_};
 ghost use mathlib.Core.List.{map};
 ghost use Prim.Native.Nat.{ℕ, _<_};
-ghost use lib.ListN.{length, set};
+ghost use lib.ListN.{length, replicate, set};
 ghost use Rattle.definition.specs.Scan.{before};
 ghost use Rattle.definition.specs.Cut.{aboveAscii, tokenize};
-ghost use Rattle.chains.specs.Chain.{bare};
+ghost use Rattle.chains.specs.Chain.{HeadCount, bare};
 ghost use Rattle.tokens.specs.Columns.{out, answered, Room, RoomIf, Zero, Fills, Rest, Lexes};
 ghost use Rattle.tokens.specs.Names.{Searches, Stores};
 
@@ -29,6 +30,8 @@ pub const TEXT_TOO_LONG: u32 = 2;
 pub const NOT_ASCII: u32 = 3;
 
 const LAST_BYTE: u32 = 127;
+
+const SMALL_TEXT: usize = 256;
 
 // How many tokens, or a refusal with its number and offset.
 pub enum Lexing {
@@ -95,7 +98,7 @@ fn put_name(
     requires { ⌜ Searches (now text) (now kinds) (now places) (now numbers) (now heads) count at end ⌝ }
     ensures { λ _. ⌜ Stores (now (text .entry)) (now (kinds .entry)) (now (places .entry)) (now (numbers .entry)) count kind at end (now (kinds .exit)) (now (places .exit)) (now (numbers .exit)) (now (heads .exit)) ⌝ }
 {
-    let h = hash(&text[at..end]);
+    let h = slot(&text[at..end], heads.len());
     let head = heads[h];
     let known = walk(text, kinds, places, numbers, count, head as usize, at, end);
     if known != 0 {
@@ -109,13 +112,20 @@ fn put_name(
 }
 
 // Fills columns of zeros with the tokens of a text. Until all are read, a name's place has its link beside it.
-fn cut_all(text: &[u8], kinds: &mut [u32], places: &mut [u32], numbers: &mut [u64]) -> Lexing
+fn cut_all(
+    text: &[u8],
+    kinds: &mut [u32],
+    places: &mut [u32],
+    numbers: &mut [u64],
+    heads: &mut [u32],
+) -> Lexing
     requires { ⌜ Room (now text) (now kinds) (now places) (now numbers) ⌝ }
     requires { ⌜ Zero (now kinds) (now places) (now numbers) (now kinds) (now places) (now numbers) ⌝ }
+    requires { ⌜ HeadCount (length (now heads)) ⌝ }
+    requires { ⌜ now heads ≡ replicate (length (now heads)) 0 ⌝ }
     ensures { λ r. ⌜ Fills (now (text .entry)) r (now (kinds .exit)) (map bare (now (places .exit))) (now (numbers .exit)) ⌝ }
     ensures { λ r. ⌜ Rest r (now (places .exit)) ⌝ }
 {
-    let mut heads = [0u32; HEADS];
     let mut at = 0;
     let mut line = true;
     let mut count = 0;
@@ -135,7 +145,7 @@ fn cut_all(text: &[u8], kinds: &mut [u32], places: &mut [u32], numbers: &mut [u6
                 continue;
             }
             Piece::Name(k, to) => {
-                put_name(text, kinds, places, numbers, &mut heads, count, k, at, to);
+                put_name(text, kinds, places, numbers, heads, count, k, at, to);
                 at = to;
                 line = false;
                 count += 1;
@@ -147,13 +157,46 @@ fn cut_all(text: &[u8], kinds: &mut [u32], places: &mut [u32], numbers: &mut [u6
     Lexing::Done(count)
 }
 
+fn cut_small(text: &[u8], kinds: &mut [u32], places: &mut [u32], numbers: &mut [u64]) -> Lexing
+    requires { ⌜ Room (now text) (now kinds) (now places) (now numbers) ⌝ }
+    requires { ⌜ Zero (now kinds) (now places) (now numbers) (now kinds) (now places) (now numbers) ⌝ }
+    ensures { λ r. ⌜ Fills (now (text .entry)) r (now (kinds .exit)) (map bare (now (places .exit))) (now (numbers .exit)) ⌝ }
+    ensures { λ r. ⌜ Rest r (now (places .exit)) ⌝ }
+{
+    let mut heads = [0u32; FEW_HEADS];
+    cut_all(text, kinds, places, numbers, &mut heads)
+}
+
+fn cut_large(text: &[u8], kinds: &mut [u32], places: &mut [u32], numbers: &mut [u64]) -> Lexing
+    requires { ⌜ Room (now text) (now kinds) (now places) (now numbers) ⌝ }
+    requires { ⌜ Zero (now kinds) (now places) (now numbers) (now kinds) (now places) (now numbers) ⌝ }
+    ensures { λ r. ⌜ Fills (now (text .entry)) r (now (kinds .exit)) (map bare (now (places .exit))) (now (numbers .exit)) ⌝ }
+    ensures { λ r. ⌜ Rest r (now (places .exit)) ⌝ }
+{
+    let mut heads = [0u32; HEADS];
+    cut_all(text, kinds, places, numbers, &mut heads)
+}
+
+// To clear many heads takes longer than to read a small text.
+fn cut(text: &[u8], kinds: &mut [u32], places: &mut [u32], numbers: &mut [u64]) -> Lexing
+    requires { ⌜ Room (now text) (now kinds) (now places) (now numbers) ⌝ }
+    requires { ⌜ Zero (now kinds) (now places) (now numbers) (now kinds) (now places) (now numbers) ⌝ }
+    ensures { λ r. ⌜ Fills (now (text .entry)) r (now (kinds .exit)) (map bare (now (places .exit))) (now (numbers .exit)) ⌝ }
+    ensures { λ r. ⌜ Rest r (now (places .exit)) ⌝ }
+{
+    if text.len() <= SMALL_TEXT {
+        return cut_small(text, kinds, places, numbers);
+    }
+    cut_large(text, kinds, places, numbers)
+}
+
 // Fills columns of zeros with the tokens of a text.
 fn fill(text: &[u8], kinds: &mut [u32], places: &mut [u32], numbers: &mut [u64]) -> Lexing
     requires { ⌜ Room (now text) (now kinds) (now places) (now numbers) ⌝ }
     requires { ⌜ Zero (now kinds) (now places) (now numbers) (now kinds) (now places) (now numbers) ⌝ }
     ensures { λ r. ⌜ Fills (now (text .entry)) r (now (kinds .exit)) (now (places .exit)) (now (numbers .exit)) ⌝ }
 {
-    let r = cut_all(text, kinds, places, numbers);
+    let r = cut(text, kinds, places, numbers);
     match r {
         Lexing::Done(count) => {
             bare(&mut places[..count]);

@@ -5,7 +5,7 @@ use Rattle.declarator_heads.proofs.is_plain.Reads as reads
 use Rattle.declarator_heads.proofs.is_plain.Lts as lts
 use Rattle.table.proofs.kind_at.Reads as kind-at-reads
 use Rattle.words.proofs.classes.is_name.Reads as is-name-reads
-use mathlib.Core.Path.{_≡_, sym, _∙_}
+use mathlib.Core.Path.{sym, _∙_}
 use native.Mathlib.Omega.{arith}
 use borrow.Author.Tests.{not-true, not-false}
 use Rattle.declarator_heads.proofs.Plain.{name-there, no-name, by-next}

@@ -3,21 +3,36 @@ use Rattle.entry.proofs.read_small.Statement.{statement}
 use Rattle.entry.proofs.read_small.Tie as tie
 use Rattle.entry.proofs.read_small.Reads as reads
 use Rattle.entry.proofs.read_small.Lts as lts
-use Rattle.entry.proofs.read_columns.Reads as read-columns-reads
-use mathlib.Core.Path.{refl}
-use Rattle.entry.proofs.Telling.{zero-columns}
+use Rattle.entry.proofs.read_with.Reads as read-with-reads
+use Rattle.entry.proofs.reject.Reads as reject-reads
+use Rattle.words.proofs.model.Model.numbered.Reads as numbered-reads
+use mathlib.Core.Path.{refl, sym, ap, _∙_}
+use Rattle.words.specs.Meaning.{modelFound}
+use Rattle.entry.proofs.Telling.{zero-columns, answer-known, answer-unknown}
 
-slice-aggregate-read-columns : tie.Need-slice-aggregate-read-columns
-slice-aggregate-read-columns c = search needs
+numbered-requires : tie.Need-numbered-requires
+numbered-requires c κs = search needs
 
-slice-aggregate-read-columns-2 : tie.Need-slice-aggregate-read-columns-2
-slice-aggregate-read-columns-2 c = search needs
+enum-known-found : tie.Need-enum-known-found
+enum-known-found c = search needs
 
-slice-aggregate-read-columns-3 : tie.Need-slice-aggregate-read-columns-3
-slice-aggregate-read-columns-3 c = search needs
+slice-aggregate-read-with : tie.Need-slice-aggregate-read-with
+slice-aggregate-read-with c = search needs
 
-read-columns-requires : tie.Need-read-columns-requires
-read-columns-requires c κs = let z = zero-columns 1024 (c .before .before .before .before .before .before .before .before .before .args .text .now) (λ h. c .before .before .before .before .before .before .before .before .before .pre .0) refl refl refl in (z .0, (z .1, c .before .before .before .before .before .before .before .before .before .pre .1))
+slice-aggregate-read-with-2 : tie.Need-slice-aggregate-read-with-2
+slice-aggregate-read-with-2 c = search needs
+
+slice-aggregate-read-with-3 : tie.Need-slice-aggregate-read-with-3
+slice-aggregate-read-with-3 c = search needs
+
+read-with-requires : tie.Need-read-with-requires
+read-with-requires c κs = let z = zero-columns 256 (c .before .before .before .before .before .before .before .before .before .before .before .before .before .args .text .now) (λ h. c .before .before .before .before .before .before .before .before .before .before .before .before .before .pre .0 .run h) refl refl refl in (z .0, (z .1, c .before .before .before .before .before .before .before .before .before .before .before .before .before .pre .1))
+
+enum-told : tie.Need-enum-told
+enum-told c = search needs
+
+reject-requires : tie.Need-reject-requires
+reject-requires c κs = search needs
 
 same-length : tie.Need-same-length
 same-length c = search needs
@@ -29,17 +44,25 @@ same-length-3 : tie.Need-same-length-3
 same-length-3 c = search needs
 
 returns : tie.Need-returns
-returns c = search needs
+returns c = answer-known _ _ _ _ _ _ _ _ (ap modelFound (sym (c .before .before .before .before .before .before .before .before .before .before .before .before .before .before .before .before .found .given .1)) ∙ c .before .before .before .before .before .before .before .before .before .before .before .before .before .before .before .before .before .before .numbered .ensures) (c .before .before .before .before .before .before .before .before .read-with .ensures)
+
+returns-2 : tie.Need-returns-2
+returns-2 c = answer-unknown _ _ _ _ _ _ _ (ap modelFound (sym (c .before .enum-told .given .1)) ∙ c .before .before .before .numbered .ensures) (c .reject .ensures)
 
 pub read-small-spec : {M : Type 1} → statement M
 read-small-spec =
     tie.close
     (tie.spec
-    slice-aggregate-read-columns
-    slice-aggregate-read-columns-2
-    slice-aggregate-read-columns-3
-    read-columns-requires
+    numbered-requires
+    enum-known-found
+    slice-aggregate-read-with
+    slice-aggregate-read-with-2
+    slice-aggregate-read-with-3
+    read-with-requires
+    enum-told
+    reject-requires
     same-length
     same-length-2
     same-length-3
-    returns)
+    returns
+    returns-2)

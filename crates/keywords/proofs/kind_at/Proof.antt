@@ -3,37 +3,25 @@ use Rattle.keywords.proofs.kind_at.Statement.{statement}
 use Rattle.keywords.proofs.kind_at.Tie as tie
 use Rattle.keywords.proofs.kind_at.Reads as reads
 use Rattle.keywords.proofs.kind_at.Lts as lts
-use Rattle.keywords.proofs.wide32.Reads as wide32-reads
-use borrow.Author.Tests.{eq-eqb, ne-eqb, lt-leb, le-leb, lt-ltb, le-ltb, eqb-true, eqb-false, leb-true, leb-false, ltb-true, ltb-false, not-true, not-false}
-use native.Mathlib.Omega.{arith}
-use native.Mathlib.Numerals.{add-one}
-use mathlib.Core.Path.{_≡_, refl, sym, ap, _∙_}
-use mathlib.Core.Bool.{Bool, true, false, _&&_, _||_, not}
-use mathlib.Core.List.{List, [], _∷_}
-use mathlib.Core.Logic.{⊎-elim}
-use Prim.Native.Nat.{ℕ, zero, suc, _+_, _-_, _*_, _≤_, _<_}
-use lib.Dec.{eqb, leb, ltb, eqb→eq}
-use lib.ListN.{length, drop, take, getD}
-use lib.Seq.{take-all, take-suc, take-length, length-take-le}
-use Rattle.definition.specs.Text.{Bytes, bytes, byteAt}
-use Rattle.definition.specs.Scan.{from, first, second, begins, before}
-use Rattle.scan.proofs.Branch.{yes!, nay!, eq+, eq-, lt+, lt-, le+, le-, both, not-first, not-second, either-first, either-second, neither}
-use Rattle.scan.proofs.Going.{inside, outside, first-from, second-from, from-cons, from-end, tail-part}
-use Prim.Native.Nat.{_/_, _%_}
-use Rattle.definition.specs.Text.{same}
-use Rattle.definition.specs.Word.{words, kindAmong, kindOf, attributeWords, keywords, builtinNames}
-use Rattle.keywords.specs.Slots.{starts, sizes, kinds, letters, slotOf, spellingOf}
-use Rattle.keywords.proofs.Slotted.{start-bound, no-letters, other-size, other-word, slot-word}
+use Rattle.keywords.proofs.kind_row.Reads as kind-row-reads
+use mathlib.Core.Path.{_∙_, ap}
+use Prim.Native.Nat.{ℕ, _/_, _%_, _^_, _*_}
+use Rattle.keywords.proofs.Slotted.{kind-is}
 
-array-read-wide32 : tie.Need-array-read-wide32
-array-read-wide32 c = search needs
+kind-row-requires : tie.Need-kind-row-requires
+kind-row-requires c κs = search needs
 
-wide32-requires : tie.Need-wide32-requires
-wide32-requires c κs = search needs
+mul-result : tie.Need-mul-result
+mul-result c = search needs
+
+shr-result : tie.Need-shr-result
+shr-result c = search needs
+
+cast-result : tie.Need-cast-result
+cast-result c = search needs
 
 returns : tie.Need-returns
-unfolding kinds
-returns c = c .wide32 .ensures
+returns c = ap (λ (r : ℕ). r / 2 ^ (c .before .args .h % 8 * 8) % 256) (c .kind-row .ensures) ∙ kind-is _ (c .before .pre)
 
 pub kind-at-spec : {M : Type 1} → statement M
-kind-at-spec = tie.close (tie.spec array-read-wide32 wide32-requires returns)
+kind-at-spec = tie.close (tie.spec kind-row-requires mul-result shr-result cast-result returns)

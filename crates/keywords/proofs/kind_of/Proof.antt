@@ -3,31 +3,18 @@ use Rattle.keywords.proofs.kind_of.Statement.{statement}
 use Rattle.keywords.proofs.kind_of.Tie as tie
 use Rattle.keywords.proofs.kind_of.Reads as reads
 use Rattle.keywords.proofs.kind_of.Lts as lts
-use Rattle.attributes.proofs.starts_with.Reads as starts-with-reads
+use Rattle.keywords.proofs.first_letters.Reads as first-letters-reads
 use Rattle.keywords.proofs.kind_at.Reads as kind-at-reads
+use Rattle.keywords.proofs.last_letters.Reads as last-letters-reads
 use Rattle.keywords.proofs.size_at.Reads as size-at-reads
 use Rattle.keywords.proofs.slot.Reads as slot-reads
-use Rattle.keywords.proofs.start_at.Reads as start-at-reads
-use borrow.Author.Tests.{eq-eqb, ne-eqb, lt-leb, le-leb, lt-ltb, le-ltb, eqb-true, eqb-false, leb-true, leb-false, ltb-true, ltb-false, not-true, not-false}
+use Rattle.keywords.proofs.spells.Reads as spells-reads
+use mathlib.Core.Path.{_≡_, sym, ap, _∙_}
+use borrow.Author.Tests.{not-true, not-false}
+use Rattle.scan.proofs.Going.{tail-part}
 use native.Mathlib.Omega.{arith}
-use native.Mathlib.Numerals.{add-one}
-use mathlib.Core.Path.{_≡_, refl, sym, ap, _∙_}
-use mathlib.Core.Bool.{Bool, true, false, _&&_, _||_, not}
-use mathlib.Core.List.{List, [], _∷_}
-use mathlib.Core.Logic.{⊎-elim}
-use Prim.Native.Nat.{ℕ, zero, suc, _+_, _-_, _*_, _≤_, _<_}
-use lib.Dec.{eqb, leb, ltb, eqb→eq}
-use lib.ListN.{length, drop, take, getD}
-use lib.Seq.{take-all, take-suc, take-length, length-take-le}
-use Rattle.definition.specs.Text.{Bytes, bytes, byteAt}
-use Rattle.definition.specs.Scan.{from, first, second, begins, before}
-use Rattle.scan.proofs.Branch.{yes!, nay!, eq+, eq-, lt+, lt-, le+, le-, both, not-first, not-second, either-first, either-second, neither}
-use Rattle.scan.proofs.Going.{inside, outside, first-from, second-from, from-cons, from-end, tail-part}
-use Prim.Native.Nat.{_/_, _%_}
-use Rattle.definition.specs.Text.{same}
-use Rattle.definition.specs.Word.{words, kindAmong, kindOf, attributeWords, keywords, builtinNames}
-use Rattle.keywords.specs.Slots.{starts, sizes, kinds, letters, slotOf, spellingOf}
-use Rattle.keywords.proofs.Slotted.{start-bound, no-letters, other-size, other-word, slot-word}
+use lib.Seq.{length-take-le}
+use Rattle.keywords.proofs.Slotted.{no-letters, other-size, short-other, short-word, front-other, back-other, long-word}
 
 returns : tie.Need-returns
 returns c = sym (no-letters (c .before .before .args .word .now) (c .if1 .taken))
@@ -41,23 +28,56 @@ size-at-requires c κs = search needs
 returns-2 : tie.Need-returns-2
 returns-2 c = sym (other-size (c .before .before .before .before .before .args .word .now) _ (c .before .before .slot .ensures .0) (c .before .before .slot .ensures .1) (λ e. c .if2 .taken (c .before .size-at .ensures ∙ e)))
 
-start-at-requires : tie.Need-start-at-requires
-start-at-requires c κs = search needs
+first-letters-requires : tie.Need-first-letters-requires
+first-letters-requires c κs = search needs
 
-starts-with-requires : tie.Need-starts-with-requires
-unfolding letters bytes
-starts-with-requires c κs = rw (c .before .start-at .ensures) (start-bound _ (c .before .before .before .before .before .slot .ensures .1))
+spells-requires : tie.Need-spells-requires
+spells-requires c κs = search needs
 
 kind-at-requires : tie.Need-kind-at-requires
 kind-at-requires c κs = search needs
 
 returns-3 : tie.Need-returns-3
-unfolding letters bytes
-returns-3 c = c .kind-at .ensures ∙ sym (slot-word (c .before .before .before .before .before .before .before .before .before .before .before .args .word .now) _ (c .before .before .before .before .before .before .before .before .slot .ensures .0) (c .before .before .before .before .before .before .before .before .slot .ensures .1) (sym (c .before .before .before .before .before .before .before .size-at .ensures) ∙ c .before .before .before .before .before .before .if2 .left) (omega (arith, c .before .before .before .before .before .before .before .before .before .if1 .left)) (rw (c .before .before .before .before .start-at .ensures) at (sym (c .before .before .starts-with .ensures) ∙ c .before .if3 .taken)))
+returns-3 c = c .kind-at .ensures ∙ sym (short-word (c .before .before .before .before .before .before .before .before .before .before .args .word .now) _ (c .before .before .before .before .before .before .before .slot .ensures .0) (c .before .before .before .before .before .before .before .slot .ensures .1) (sym (c .before .before .before .before .before .before .size-at .ensures) ∙ c .before .before .before .before .before .if2 .left) (c .before .before .before .before .if3 .taken) (rw (c .before .before .before .first-letters .ensures) at (sym (c .before .before .spells .ensures) ∙ c .before .if4 .taken)))
 
 returns-4 : tie.Need-returns-4
-unfolding letters bytes
-returns-4 c = sym (other-word (c .before .before .before .before .before .before .before .before .before .before .args .word .now) _ (c .before .before .before .before .before .before .before .slot .ensures .0) (c .before .before .before .before .before .before .before .slot .ensures .1) (sym (c .before .before .before .before .before .before .size-at .ensures) ∙ c .before .before .before .before .before .if2 .left) (rw (c .before .before .before .start-at .ensures) at (sym (c .before .starts-with .ensures) ∙ c .if3 .left)))
+returns-4 c = sym (short-other (c .before .before .before .before .before .before .before .before .before .args .word .now) _ (c .before .before .before .before .before .before .slot .ensures .0) (c .before .before .before .before .before .before .slot .ensures .1) (sym (c .before .before .before .before .before .size-at .ensures) ∙ c .before .before .before .before .if2 .left) (c .before .before .before .if3 .taken) (rw (c .before .before .first-letters .ensures) at (sym (c .before .spells .ensures) ∙ c .if4 .left)))
+
+slice-aggregate-spells : tie.Need-slice-aggregate-spells
+slice-aggregate-spells c = sym (length-take-le 8 (c .before .before .before .before .before .before .before .args .word .now) (omega (arith, c .before .if3 .left)))
+
+first-letters-requires-2 : tie.Need-first-letters-requires-2
+first-letters-requires-2 c κs = search needs
+
+spells-requires-2 : tie.Need-spells-requires-2
+spells-requires-2 c κs = search needs
+
+returns-5 : tie.Need-returns-5
+returns-5 c = sym (front-other (c .before .before .before .before .before .before .before .before .before .before .args .word .now) _ (c .before .before .before .before .before .before .before .slot .ensures .0) (c .before .before .before .before .before .before .before .slot .ensures .1) (sym (c .before .before .before .before .before .before .size-at .ensures) ∙ c .before .before .before .before .before .if2 .left) (rw (c .before .before .first-letters2 .ensures) at (sym (c .before .spells2 .ensures) ∙ not-true _ (c .if5 .taken))))
+
+sub-spells : tie.Need-sub-spells
+sub-spells c = search needs
+
+part-spells-start : tie.Need-part-spells-start
+part-spells-start c = search needs
+
+part-spells-end : tie.Need-part-spells-end
+part-spells-end c = search needs
+
+last-letters-requires : tie.Need-last-letters-requires
+last-letters-requires c κs = search needs
+
+spells-requires-3 : tie.Need-spells-requires-3
+spells-requires-3 c κs = search needs
+
+kind-at-requires-2 : tie.Need-kind-at-requires-2
+kind-at-requires-2 c κs = search needs
+
+returns-6 : tie.Need-returns-6
+returns-6 c = c .kind-at2 .ensures ∙ sym (long-word (c .before .before .before .before .before .before .before .before .before .before .before .before .before .before .before .args .word .now) _ (c .before .before .before .before .before .before .before .before .before .before .before .before .slot .ensures .0) (c .before .before .before .before .before .before .before .before .before .before .before .before .slot .ensures .1) (sym (c .before .before .before .before .before .before .before .before .before .before .before .size-at .ensures) ∙ c .before .before .before .before .before .before .before .before .before .before .if2 .left) (rw (c .before .before .before .before .before .before .before .first-letters2 .ensures) at (sym (c .before .before .before .before .before .before .spells2 .ensures) ∙ not-false _ (c .before .before .before .before .before .if5 .left))) (rw (c .before .before .before .last-letters .ensures, tail-part (c .before .before .before .before .before .before .before .before .before .before .before .before .before .before .before .args .word .now) 8) at (sym (c .before .before .spells3 .ensures) ∙ c .before .if6 .taken)))
+
+returns-7 : tie.Need-returns-7
+returns-7 c = sym (back-other (c .before .before .before .before .before .before .before .before .before .before .before .before .before .before .args .word .now) _ (c .before .before .before .before .before .before .before .before .before .before .before .slot .ensures .0) (c .before .before .before .before .before .before .before .before .before .before .before .slot .ensures .1) (sym (c .before .before .before .before .before .before .before .before .before .before .size-at .ensures) ∙ c .before .before .before .before .before .before .before .before .before .if2 .left) (rw (c .before .before .last-letters .ensures, tail-part (c .before .before .before .before .before .before .before .before .before .before .before .before .before .before .args .word .now) 8) at (sym (c .before .spells3 .ensures) ∙ c .if6 .left)))
 
 pub kind-of-spec : {M : Type 1} → statement M
 kind-of-spec =
@@ -67,8 +87,20 @@ kind-of-spec =
     slot-requires
     size-at-requires
     returns-2
-    start-at-requires
-    starts-with-requires
+    first-letters-requires
+    spells-requires
     kind-at-requires
     returns-3
-    returns-4)
+    returns-4
+    slice-aggregate-spells
+    first-letters-requires-2
+    spells-requires-2
+    returns-5
+    sub-spells
+    part-spells-start
+    part-spells-end
+    last-letters-requires
+    spells-requires-3
+    kind-at-requires-2
+    returns-6
+    returns-7)

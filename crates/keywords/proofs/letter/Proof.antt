@@ -21,8 +21,6 @@ use Rattle.scan.proofs.Going.{inside, outside, first-from, second-from, from-co
 use Prim.Native.Nat.{_/_, _%_}
 use Rattle.definition.specs.Text.{same}
 use Rattle.definition.specs.Word.{words, kindAmong, kindOf, attributeWords, keywords, builtinNames}
-use Rattle.keywords.specs.Slots.{starts, sizes, kinds, letters, slotOf, spellingOf}
-use Rattle.keywords.proofs.Slotted.{start-bound, no-letters, other-size, other-word, slot-word}
 
 shared-slice-read-result : tie.Need-shared-slice-read-result
 shared-slice-read-result c = search needs

@@ -3,37 +3,22 @@ use Rattle.keywords.proofs.size_at.Statement.{statement}
 use Rattle.keywords.proofs.size_at.Tie as tie
 use Rattle.keywords.proofs.size_at.Reads as reads
 use Rattle.keywords.proofs.size_at.Lts as lts
-use Rattle.keywords.proofs.wide8.Reads as wide8-reads
-use borrow.Author.Tests.{eq-eqb, ne-eqb, lt-leb, le-leb, lt-ltb, le-ltb, eqb-true, eqb-false, leb-true, leb-false, ltb-true, ltb-false, not-true, not-false}
-use native.Mathlib.Omega.{arith}
-use native.Mathlib.Numerals.{add-one}
-use mathlib.Core.Path.{_≡_, refl, sym, ap, _∙_}
-use mathlib.Core.Bool.{Bool, true, false, _&&_, _||_, not}
-use mathlib.Core.List.{List, [], _∷_}
-use mathlib.Core.Logic.{⊎-elim}
-use Prim.Native.Nat.{ℕ, zero, suc, _+_, _-_, _*_, _≤_, _<_}
-use lib.Dec.{eqb, leb, ltb, eqb→eq}
-use lib.ListN.{length, drop, take, getD}
-use lib.Seq.{take-all, take-suc, take-length, length-take-le}
-use Rattle.definition.specs.Text.{Bytes, bytes, byteAt}
-use Rattle.definition.specs.Scan.{from, first, second, begins, before}
-use Rattle.scan.proofs.Branch.{yes!, nay!, eq+, eq-, lt+, lt-, le+, le-, both, not-first, not-second, either-first, either-second, neither}
-use Rattle.scan.proofs.Going.{inside, outside, first-from, second-from, from-cons, from-end, tail-part}
-use Prim.Native.Nat.{_/_, _%_}
-use Rattle.definition.specs.Text.{same}
-use Rattle.definition.specs.Word.{words, kindAmong, kindOf, attributeWords, keywords, builtinNames}
-use Rattle.keywords.specs.Slots.{starts, sizes, kinds, letters, slotOf, spellingOf}
-use Rattle.keywords.proofs.Slotted.{start-bound, no-letters, other-size, other-word, slot-word}
+use Rattle.keywords.proofs.size_row.Reads as size-row-reads
+use mathlib.Core.Path.{_∙_, ap}
+use Prim.Native.Nat.{ℕ, _/_, _%_, _^_, _*_}
+use Rattle.keywords.proofs.Slotted.{size-is}
 
-array-read-wide8 : tie.Need-array-read-wide8
-array-read-wide8 c = search needs
+size-row-requires : tie.Need-size-row-requires
+size-row-requires c κs = search needs
 
-wide8-requires : tie.Need-wide8-requires
-wide8-requires c κs = search needs
+mul-result : tie.Need-mul-result
+mul-result c = search needs
+
+shr-result : tie.Need-shr-result
+shr-result c = search needs
 
 returns : tie.Need-returns
-unfolding sizes
-returns c = c .wide8 .ensures
+returns c = ap (λ (r : ℕ). r / 2 ^ (c .before .args .h % 16 * 4) % 16) (c .size-row .ensures) ∙ size-is _ (c .before .pre)
 
 pub size-at-spec : {M : Type 1} → statement M
-size-at-spec = tie.close (tie.spec array-read-wide8 wide8-requires returns)
+size-at-spec = tie.close (tie.spec size-row-requires mul-result shr-result returns)

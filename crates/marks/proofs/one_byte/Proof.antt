@@ -1,48 +1,144 @@
-use borrow.Author.Needs.{needs}
 use Rattle.marks.proofs.one_byte.Statement.{statement}
 use Rattle.marks.proofs.one_byte.Tie as tie
 use Rattle.marks.proofs.one_byte.Reads as reads
 use Rattle.marks.proofs.one_byte.Lts as lts
-use Rattle.marks.proofs.wide.Reads as wide-reads
-use borrow.Author.Tests.{eq-eqb, ne-eqb, lt-leb, le-leb, lt-ltb, le-ltb, eqb-true, eqb-false, leb-true, leb-false, ltb-true, ltb-false, not-true, not-false}
-use native.Mathlib.Omega.{arith}
-use native.Mathlib.Numerals.{add-one}
-use mathlib.Core.Path.{_≡_, refl, sym, ap, _∙_}
-use mathlib.Core.Bool.{Bool, true, false, _&&_, _||_, not}
-use mathlib.Core.List.{List, [], _∷_}
-use mathlib.Core.Logic.{⊎-elim}
-use Prim.Native.Nat.{ℕ, zero, suc, _+_, _-_, _*_, _≤_, _<_}
-use lib.Dec.{eqb, leb, ltb, eqb→eq}
-use lib.ListN.{length, drop, take, getD}
-use lib.Seq.{take-all, take-suc, take-length, length-take-le}
-use Rattle.definition.specs.Text.{Bytes, bytes, byteAt}
-use Rattle.definition.specs.Scan.{from, first, second, begins, before}
-use Rattle.scan.proofs.Branch.{yes!, nay!, eq+, eq-, lt+, lt-, le+, le-, both, not-first, not-second, either-first, either-second, neither}
-use Rattle.scan.proofs.Going.{inside, outside, first-from, second-from, from-cons, from-end, tail-part}
-use Rattle.definition.specs.Mark.{Mark, pair, twoByteMarks, oneByteMarks, markAmong, markAt}
-use Rattle.definition.specs.Quoted.{inQuotes}
-use Rattle.scan.proofs.Table.{at}
-use Rattle.marks.proofs.Marks.{byte-bound, past-marks, no-pair, mark-three, mark-one, mark-two}
-use Rattle.marks.proofs.Quotes.{quotes-end, quote-closes, quote-skips, quote-goes}
-
-ones : List ℕ
-ones = 0 ∷ 0 ∷ 0 ∷ 0 ∷ 0 ∷ 0 ∷ 0 ∷ 0 ∷ 0 ∷ 0 ∷ 0 ∷ 0 ∷ 0 ∷ 0 ∷ 0 ∷ 0 ∷ 0 ∷ 0 ∷ 0 ∷ 0 ∷ 0 ∷ 0 ∷ 0 ∷ 0 ∷ 0 ∷ 0 ∷ 0 ∷ 0 ∷ 0 ∷ 0 ∷ 0 ∷ 0 ∷ 0 ∷ 77 ∷ 0 ∷ 0 ∷ 0 ∷ 79 ∷ 80 ∷ 0 ∷ 62 ∷ 63 ∷ 68 ∷ 74 ∷ 69 ∷ 75 ∷ 85 ∷ 78 ∷ 0 ∷ 0 ∷ 0 ∷ 0 ∷ 0 ∷ 0 ∷ 0 ∷ 0 ∷ 0 ∷ 0 ∷ 71 ∷ 70 ∷ 83 ∷ 73 ∷ 84 ∷ 72 ∷ 0 ∷ 0 ∷ 0 ∷ 0 ∷ 0 ∷ 0 ∷ 0 ∷ 0 ∷ 0 ∷ 0 ∷ 0 ∷ 0 ∷ 0 ∷ 0 ∷ 0 ∷ 0 ∷ 0 ∷ 0 ∷ 0 ∷ 0 ∷ 0 ∷ 0 ∷ 0 ∷ 0 ∷ 0 ∷ 0 ∷ 0 ∷ 64 ∷ 0 ∷ 65 ∷ 81 ∷ 0 ∷ 0 ∷ 0 ∷ 0 ∷ 0 ∷ 0 ∷ 0 ∷ 0 ∷ 0 ∷ 0 ∷ 0 ∷ 0 ∷ 0 ∷ 0 ∷ 0 ∷ 0 ∷ 0 ∷ 0 ∷ 0 ∷ 0 ∷ 0 ∷ 0 ∷ 0 ∷ 0 ∷ 0 ∷ 0 ∷ 0 ∷ 0 ∷ 66 ∷ 82 ∷ 67 ∷ 76 ∷ 0 ∷ []
-
-right : ℕ → ℕ → Bool
-right k x = eqb x (markAmong oneByteMarks k)
-
-array-read-wide : tie.Need-array-read-wide
-array-read-wide c = search needs
-
-wide-requires : tie.Need-wide-requires
-wide-requires c κs = search needs
+use mathlib.Core.Path.{sym, ap}
+use Rattle.definition.specs.Mark.{oneByteMarks, markAmong}
+use Rattle.marks.proofs.Marks.{low-rest, middle-rest, high-rest}
 
 returns : tie.Need-returns
-unfolding ones right markAmong oneByteMarks
-returns c = c .wide .ensures ∙ eqb→eq (getD ones (c .before .before .args .a) 0) (markAmong oneByteMarks (c .before .before .args .a)) (at right ones tt (c .before .before .args .a) (c .before .if1 .taken))
+unfolding markAmong oneByteMarks
+returns c = sym (ap (markAmong oneByteMarks) (c .match .keys1))
 
 returns-2 : tie.Need-returns-2
-returns-2 c = sym (past-marks (c .before .args .a) (c .if1 .left))
+unfolding markAmong oneByteMarks
+returns-2 c = sym (ap (markAmong oneByteMarks) (c .match .keys2))
+
+returns-3 : tie.Need-returns-3
+unfolding markAmong oneByteMarks
+returns-3 c = sym (ap (markAmong oneByteMarks) (c .match .keys3))
+
+returns-4 : tie.Need-returns-4
+unfolding markAmong oneByteMarks
+returns-4 c = sym (ap (markAmong oneByteMarks) (c .match .keys4))
+
+returns-5 : tie.Need-returns-5
+unfolding markAmong oneByteMarks
+returns-5 c = sym (ap (markAmong oneByteMarks) (c .match .keys5))
+
+returns-6 : tie.Need-returns-6
+unfolding markAmong oneByteMarks
+returns-6 c = sym (ap (markAmong oneByteMarks) (c .match .keys6))
+
+returns-7 : tie.Need-returns-7
+unfolding markAmong oneByteMarks
+returns-7 c = sym (ap (markAmong oneByteMarks) (c .match .keys7))
+
+returns-8 : tie.Need-returns-8
+unfolding markAmong oneByteMarks
+returns-8 c = sym (ap (markAmong oneByteMarks) (c .match .keys8))
+
+returns-9 : tie.Need-returns-9
+unfolding markAmong oneByteMarks
+returns-9 c = sym (ap (markAmong oneByteMarks) (c .match .keys9))
+
+returns-10 : tie.Need-returns-10
+unfolding markAmong oneByteMarks
+returns-10 c = sym (ap (markAmong oneByteMarks) (c .match .keys10))
+
+returns-11 : tie.Need-returns-11
+unfolding markAmong oneByteMarks
+returns-11 c = sym (ap (markAmong oneByteMarks) (c .match .keys11))
+
+returns-12 : tie.Need-returns-12
+unfolding markAmong oneByteMarks
+returns-12 c = sym (ap (markAmong oneByteMarks) (c .match .keys12))
+
+returns-13 : tie.Need-returns-13
+unfolding markAmong oneByteMarks
+returns-13 c = sym (ap (markAmong oneByteMarks) (c .match .keys13))
+
+returns-14 : tie.Need-returns-14
+unfolding markAmong oneByteMarks
+returns-14 c = sym (ap (markAmong oneByteMarks) (c .match .keys14))
+
+returns-15 : tie.Need-returns-15
+unfolding markAmong oneByteMarks
+returns-15 c = sym (ap (markAmong oneByteMarks) (c .match .keys15))
+
+returns-16 : tie.Need-returns-16
+unfolding markAmong oneByteMarks
+returns-16 c = sym (ap (markAmong oneByteMarks) (c .match .keys16))
+
+returns-17 : tie.Need-returns-17
+unfolding markAmong oneByteMarks
+returns-17 c = sym (ap (markAmong oneByteMarks) (c .match .keys17))
+
+returns-18 : tie.Need-returns-18
+returns-18 c = sym (low-rest _ (c .before .if1 .taken) (c .match .rest))
+
+returns-19 : tie.Need-returns-19
+unfolding markAmong oneByteMarks
+returns-19 c = sym (ap (markAmong oneByteMarks) (c .match2 .keys1))
+
+returns-20 : tie.Need-returns-20
+unfolding markAmong oneByteMarks
+returns-20 c = sym (ap (markAmong oneByteMarks) (c .match2 .keys2))
+
+returns-21 : tie.Need-returns-21
+unfolding markAmong oneByteMarks
+returns-21 c = sym (ap (markAmong oneByteMarks) (c .match2 .keys3))
+
+returns-22 : tie.Need-returns-22
+returns-22 c = sym (middle-rest _ (c .before .before .if1 .left) (c .before .if2 .taken) (c .match2 .rest))
+
+returns-23 : tie.Need-returns-23
+unfolding markAmong oneByteMarks
+returns-23 c = sym (ap (markAmong oneByteMarks) (c .match3 .keys1))
+
+returns-24 : tie.Need-returns-24
+unfolding markAmong oneByteMarks
+returns-24 c = sym (ap (markAmong oneByteMarks) (c .match3 .keys2))
+
+returns-25 : tie.Need-returns-25
+unfolding markAmong oneByteMarks
+returns-25 c = sym (ap (markAmong oneByteMarks) (c .match3 .keys3))
+
+returns-26 : tie.Need-returns-26
+unfolding markAmong oneByteMarks
+returns-26 c = sym (ap (markAmong oneByteMarks) (c .match3 .keys4))
+
+returns-27 : tie.Need-returns-27
+returns-27 c = sym (high-rest _ (c .before .if2 .left) (c .match3 .rest))
 
 pub one-byte-spec : {M : Type 1} → statement M
-one-byte-spec = tie.close (tie.spec array-read-wide wide-requires returns returns-2)
+one-byte-spec =
+    tie.close
+    (tie.spec
+    returns
+    returns-2
+    returns-3
+    returns-4
+    returns-5
+    returns-6
+    returns-7
+    returns-8
+    returns-9
+    returns-10
+    returns-11
+    returns-12
+    returns-13
+    returns-14
+    returns-15
+    returns-16
+    returns-17
+    returns-18
+    returns-19
+    returns-20
+    returns-21
+    returns-22
+    returns-23
+    returns-24
+    returns-25
+    returns-26
+    returns-27)

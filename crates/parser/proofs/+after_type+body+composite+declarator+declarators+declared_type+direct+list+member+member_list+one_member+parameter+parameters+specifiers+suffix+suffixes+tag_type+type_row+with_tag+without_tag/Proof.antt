@@ -88,6 +88,7 @@ use Rattle.bodies.proofs.add_body.Reads as add-body-reads
 use Rattle.bodies.proofs.define_body.Reads as define-body-reads
 use Rattle.declarator_heads.proofs.Declared.new.Reads as new-reads
 use Rattle.declarator_heads.proofs.is_plain.Reads as is-plain-reads
+use Rattle.declarator_heads.proofs.is_plain_pointer.Reads as is-plain-pointer-reads
 use Rattle.declarator_heads.proofs.opens_declarator.Reads as opens-declarator-reads
 use Rattle.declarator_heads.proofs.stars.Reads as stars-reads
 use Rattle.deriving.proofs.apply.Reads as apply-reads
@@ -99,6 +100,7 @@ use Rattle.naming.proofs.name_at.Reads as name-at-reads
 use Rattle.parameter_entries.proofs.add_parameter.Reads as add-parameter-reads
 use Rattle.parameter_entries.proofs.is_void_list.Reads as is-void-list-reads
 use Rattle.parameter_entries.proofs.parameters_end.Reads as parameters-end-reads
+use Rattle.parser.proofs.pointer_type.Reads as pointer-type-reads
 use Rattle.parts.proofs.array_bound.Reads as array-bound-reads
 use Rattle.rows.proofs.tag_row.Reads as tag-row-reads
 use Rattle.specifier_words.proofs.has_base.Reads as has-base-reads
@@ -126,9 +128,9 @@ use Rattle.parser.proofs.+after_type+body+composite+declarator+declarat
 use Rattle.parser.proofs.+after_type+body+composite+declarator+declarators+declared_type+direct+list+member+member_list+one_member+parameter+parameters+specifiers+suffix+suffixes+tag_type+type_row+with_tag+without_tag.Proof.AfterType.{after-type-kind-at-requires, after-type-add-moved, after-type-moved-requires, after-type-anonymous-member-requires, after-type-same-length, after-type-same-length-2, after-type-same-length-3, after-type-returns, after-type-declarators-requires, after-type-same-length-4, after-type-same-length-5, after-type-same-length-6, after-type-returns-2}
 use Rattle.parser.proofs.+after_type+body+composite+declarator+declarators+declared_type+direct+list+member+member_list+one_member+parameter+parameters+specifiers+suffix+suffixes+tag_type+type_row+with_tag+without_tag.Proof.Body.{body-cast-first, body-member-list-requires, body-enum-known-r, body-close-body-requires, body-enum-known-r-2, body-same-length, body-same-length-2, body-same-length-3, body-returns, body-same-length-4, body-same-length-5, body-same-length-6, body-returns-2}
 use Rattle.parser.proofs.+after_type+body+composite+declarator+declarators+declared_type+direct+list+member+member_list+one_member+parameter+parameters+specifiers+suffix+suffixes+tag_type+type_row+with_tag+without_tag.Proof.Composite.{composite-returns, composite-kind-at-requires, composite-is-name-requires, composite-sub-without-tag, composite-without-tag-requires, composite-same-length, composite-same-length-2, composite-same-length-3, composite-returns-2, composite-name-at-requires, composite-add-moved, composite-moved-requires, composite-sub-with-tag, composite-with-tag-requires, composite-same-length-4, composite-same-length-5, composite-same-length-6, composite-returns-3}
-use Rattle.parser.proofs.+after_type+body+composite+declarator+declarators+declared_type+direct+list+member+member_list+one_member+parameter+parameters+specifiers+suffix+suffixes+tag_type+type_row+with_tag+without_tag.Proof.Declarator.{declarator-new-requires, declarator-returns, declarator-kind-at-requires, declarator-sub-direct, declarator-direct-requires, declarator-same-length, declarator-same-length-2, declarator-same-length-3, declarator-returns-2, declarator-stars-requires, declarator-enum-known-read, declarator-enum-told, declarator-returns-3, declarator-sub-direct-2, declarator-direct-requires-2, declarator-enum-told-2, declarator-enum-told-3, declarator-same-length-4, declarator-same-length-5, declarator-same-length-6, declarator-returns-4, declarator-sub-release-stars, declarator-release-stars-requires, declarator-new-requires-2, declarator-same-length-7, declarator-same-length-8, declarator-same-length-9, declarator-returns-5}
+use Rattle.parser.proofs.+after_type+body+composite+declarator+declarators+declared_type+direct+list+member+member_list+one_member+parameter+parameters+specifiers+suffix+suffixes+tag_type+type_row+with_tag+without_tag.Proof.Declarator.{declarator-new-requires, declarator-returns, declarator-stars-requires, declarator-enum-known-read, declarator-enum-told, declarator-returns-2, declarator-sub-direct, declarator-direct-requires, declarator-same-length, declarator-same-length-2, declarator-same-length-3, declarator-returns-3, declarator-enum-told-2, declarator-enum-told-3, declarator-same-length-4, declarator-same-length-5, declarator-same-length-6, declarator-returns-4, declarator-sub-release-stars, declarator-release-stars-requires, declarator-new-requires-2, declarator-same-length-7, declarator-same-length-8, declarator-same-length-9, declarator-returns-5}
 use Rattle.parser.proofs.+after_type+body+composite+declarator+declarators+declared_type+direct+list+member+member_list+one_member+parameter+parameters+specifiers+suffix+suffixes+tag_type+type_row+with_tag+without_tag.Proof.Declarators.{declarators-Inv-loop, declarators-μ-loop, declarators-loop-holds, declarators-one-member-requires, declarators-enum-known-r, declarators-enum-told, declarators-same-length, declarators-same-length-2, declarators-same-length-3, declarators-returns, declarators-kind-at-requires, declarators-same-length-4, declarators-same-length-5, declarators-same-length-6, declarators-returns-2, declarators-add-moved, declarators-moved-requires, declarators-same-length-7, declarators-same-length-8, declarators-same-length-9, declarators-returns-3, declarators-add-moved-2, declarators-moved-requires-2, declarators-loop-less, declarators-loop-again}
-use Rattle.parser.proofs.+after_type+body+composite+declarator+declarators+declared_type+direct+list+member+member_list+one_member+parameter+parameters+specifiers+suffix+suffixes+tag_type+type_row+with_tag+without_tag.Proof.DeclaredType.{declared-type-is-plain-requires, declared-type-add-moved, declared-type-moved-requires, declared-type-name-at-requires, declared-type-returns, declared-type-empty-requires, declared-type-declarator-requires, declared-type-enum-known-answer, declared-type-apply-requires, declared-type-enum-known-r, declared-type-enum-known-r-2, declared-type-enum-known-answer-2, declared-type-same-length, declared-type-same-length-2, declared-type-same-length-3, declared-type-returns-2, declared-type-same-length-4, declared-type-same-length-5, declared-type-same-length-6, declared-type-returns-3, declared-type-same-length-7, declared-type-same-length-8, declared-type-same-length-9, declared-type-returns-4}
+use Rattle.parser.proofs.+after_type+body+composite+declarator+declarators+declared_type+direct+list+member+member_list+one_member+parameter+parameters+specifiers+suffix+suffixes+tag_type+type_row+with_tag+without_tag.Proof.DeclaredType.{declared-type-is-plain-requires, declared-type-add-moved, declared-type-moved-requires, declared-type-name-at-requires, declared-type-returns, declared-type-is-plain-pointer-requires, declared-type-pointer-type-requires, declared-type-same-length, declared-type-same-length-2, declared-type-same-length-3, declared-type-returns-2, declared-type-empty-requires, declared-type-declarator-requires, declared-type-enum-known-answer, declared-type-apply-requires, declared-type-enum-known-r, declared-type-enum-known-r-2, declared-type-enum-known-answer-2, declared-type-same-length-4, declared-type-same-length-5, declared-type-same-length-6, declared-type-returns-3, declared-type-same-length-7, declared-type-same-length-8, declared-type-same-length-9, declared-type-returns-4, declared-type-same-length-10, declared-type-same-length-11, declared-type-same-length-12, declared-type-returns-5}
 use Rattle.parser.proofs.+after_type+body+composite+declarator+declarators+declared_type+direct+list+member+member_list+one_member+parameter+parameters+specifiers+suffix+suffixes+tag_type+type_row+with_tag+without_tag.Proof.Direct.{direct-new-requires, direct-returns, direct-sub-inner, direct-kind-at-requires, direct-is-name-requires, direct-name-at-requires, direct-add-moved, direct-moved-requires, direct-suffixes-requires, direct-same-length, direct-same-length-2, direct-same-length-3, direct-returns-2, direct-opens-declarator-requires, direct-suffixes-requires-2, direct-same-length-4, direct-same-length-5, direct-same-length-6, direct-returns-3, direct-add-moved-2, direct-moved-requires-2, direct-declarator-requires, direct-enum-known-answer, direct-enum-told, direct-same-length-7, direct-same-length-8, direct-same-length-9, direct-returns-4, direct-kind-at-requires-2, direct-new-requires-2, direct-same-length-10, direct-same-length-11, direct-same-length-12, direct-returns-5, direct-add-moved-3, direct-moved-requires-3, direct-suffixes-requires-3, direct-same-length-13, direct-same-length-14, direct-same-length-15, direct-returns-6}
 use Rattle.parser.proofs.+after_type+body+composite+declarator+declarators+declared_type+direct+list+member+member_list+one_member+parameter+parameters+specifiers+suffix+suffixes+tag_type+type_row+with_tag+without_tag.Proof.List.{list-Inv-loop, list-μ-loop, list-loop-holds, list-kind-at-requires, list-add-moved, list-moved-requires, list-parameters-end-requires, list-same-length, list-same-length-2, list-same-length-3, list-returns, list-parameter-requires, list-enum-known-p, list-same-length-4, list-same-length-5, list-same-length-6, list-returns-2, list-enum-known-p-2, list-is-void-list-requires, list-parameters-end-requires-2, list-same-length-7, list-same-length-8, list-same-length-9, list-returns-3, list-add-parameter-requires, list-enum-known-r, list-same-length-10, list-same-length-11, list-same-length-12, list-returns-4, list-enum-known-r-2, list-add-n, list-kind-at-requires-2, list-parameters-end-requires-3, list-same-length-13, list-same-length-14, list-same-length-15, list-returns-5, list-add-moved-2, list-moved-requires-2, list-loop-less, list-loop-again}
 use Rattle.parser.proofs.+after_type+body+composite+declarator+declarators+declared_type+direct+list+member+member_list+one_member+parameter+parameters+specifiers+suffix+suffixes+tag_type+type_row+with_tag+without_tag.Proof.Member.{member-specifiers-requires, member-enum-known-s, member-number-requires, member-same-length, member-same-length-2, member-same-length-3, member-returns, member-base-type-requires, member-enum-known-r, member-after-type-requires, member-enum-known-r-2, member-enum-known-s-2, member-same-length-4, member-same-length-5, member-same-length-6, member-returns-2, member-same-length-7, member-same-length-8, member-same-length-9, member-returns-3, member-same-length-10, member-same-length-11, member-same-length-12, member-returns-4}
@@ -252,12 +254,10 @@ pub +after-type+body+composite+declarator+declarators+declared-type+direct+list+
     (λ t. declarator-lts.spec (
       new-reads.Asked,
       new-reads.Learnt,
-      kind-at-reads.Asked,
-      kind-at-reads.Learnt,
-      direct-below t,
-      direct.Post,
       stars-reads.Asked,
       stars-reads.Learnt,
+      direct-below t,
+      direct.Post,
       release-stars-reads.Asked,
       release-stars-reads.Learnt,
     )
@@ -265,19 +265,16 @@ pub +after-type+body+composite+declarator+declarators+declared-type+direct+list+
     declarator.Post
     (declarator-new-requires t)
     (declarator-returns t)
-    (declarator-kind-at-requires t)
+    (declarator-stars-requires t)
+    (declarator-enum-known-read t)
+    (declarator-enum-told t)
+    (declarator-returns-2 t)
     (declarator-sub-direct t)
     (declarator-direct-requires t)
     (declarator-same-length t)
     (declarator-same-length-2 t)
     (declarator-same-length-3 t)
-    (declarator-returns-2 t)
-    (declarator-stars-requires t)
-    (declarator-enum-known-read t)
-    (declarator-enum-told t)
     (declarator-returns-3 t)
-    (declarator-sub-direct-2 t)
-    (declarator-direct-requires-2 t)
     (declarator-enum-told-2 t)
     (declarator-enum-told-3 t)
     (declarator-same-length-4 t)
@@ -333,6 +330,10 @@ pub +after-type+body+composite+declarator+declarators+declared-type+direct+list+
       moved-reads.Learnt,
       name-at-reads.Asked,
       name-at-reads.Learnt,
+      is-plain-pointer-reads.Asked,
+      is-plain-pointer-reads.Learnt,
+      pointer-type-reads.Asked,
+      pointer-type-reads.Learnt,
       empty-reads.Asked,
       empty-reads.Learnt,
       declarator-below t,
@@ -347,6 +348,12 @@ pub +after-type+body+composite+declarator+declarators+declared-type+direct+list+
     (declared-type-moved-requires t)
     (declared-type-name-at-requires t)
     (declared-type-returns t)
+    (declared-type-is-plain-pointer-requires t)
+    (declared-type-pointer-type-requires t)
+    (declared-type-same-length t)
+    (declared-type-same-length-2 t)
+    (declared-type-same-length-3 t)
+    (declared-type-returns-2 t)
     (declared-type-empty-requires t)
     (declared-type-declarator-requires t)
     (declared-type-enum-known-answer t)
@@ -354,10 +361,6 @@ pub +after-type+body+composite+declarator+declarators+declared-type+direct+list+
     (declared-type-enum-known-r t)
     (declared-type-enum-known-r-2 t)
     (declared-type-enum-known-answer-2 t)
-    (declared-type-same-length t)
-    (declared-type-same-length-2 t)
-    (declared-type-same-length-3 t)
-    (declared-type-returns-2 t)
     (declared-type-same-length-4 t)
     (declared-type-same-length-5 t)
     (declared-type-same-length-6 t)
@@ -365,7 +368,11 @@ pub +after-type+body+composite+declarator+declarators+declared-type+direct+list+
     (declared-type-same-length-7 t)
     (declared-type-same-length-8 t)
     (declared-type-same-length-9 t)
-    (declared-type-returns-4 t))
+    (declared-type-returns-4 t)
+    (declared-type-same-length-10 t)
+    (declared-type-same-length-11 t)
+    (declared-type-same-length-12 t)
+    (declared-type-returns-5 t))
     (λ t. direct-lts.spec (
       new-reads.Asked,
       new-reads.Learnt,

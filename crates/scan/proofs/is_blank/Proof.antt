@@ -1,37 +1,14 @@
-use borrow.Author.Needs.{needs}
 use Rattle.scan.proofs.is_blank.Statement.{statement}
 use Rattle.scan.proofs.is_blank.Tie as tie
 use Rattle.scan.proofs.is_blank.Reads as reads
 use Rattle.scan.proofs.is_blank.Lts as lts
-use Rattle.scan.proofs.class_of.Reads as class-of-reads
-use borrow.Author.Tests.{eq-eqb, ne-eqb, lt-leb, le-leb, lt-ltb, le-ltb, eqb-true, eqb-false, leb-true, leb-false, ltb-true, ltb-false, not-true, not-false}
-use native.Mathlib.Omega.{arith}
-use native.Mathlib.Numerals.{add-one}
-use mathlib.Core.Path.{_≡_, refl, sym, ap, _∙_}
-use mathlib.Core.Bool.{Bool, true, false, _&&_, _||_, not}
-use mathlib.Core.List.{List, [], _∷_}
-use mathlib.Core.Logic.{⊎-elim}
-use Prim.Native.Nat.{ℕ, zero, suc, _+_, _-_, _*_, _≤_, _<_}
-use lib.Dec.{eqb, leb, ltb, eqb→eq}
-use lib.ListN.{length, drop, take, getD}
-use Rattle.definition.specs.Text.{Bytes, bytes, byteAt}
-use Rattle.definition.specs.Class.{classOf, isBlank, isWordByte, isBlankByte, isLetterByte, isDigitByte, among, markBytes}
-use Rattle.definition.specs.Scan.{from, first, second, begins, before}
-use Rattle.definition.specs.Comment.{endsLine, endsComment, lineLength}
-use Rattle.definition.specs.Directive.{endsWord}
-use Rattle.definition.specs.Attribute.{notBlank}
-use Rattle.definition.specs.Number.{isNumberByte, endsNumber}
-use Rattle.definition.specs.Place.{Place, after, afterAll, placeOf}
-use Rattle.scan.proofs.Table.{at}
-use Rattle.scan.proofs.Going.{inside, outside, first-from, second-from, moves, stops, ends, begins-first, begins-not, last-byte, closes, goes-on, place-more, place-end, feed, no-feed}
-use Rattle.scan.proofs.Past.{past}
-
-class-of-requires : tie.Need-class-of-requires
-class-of-requires c κs = search needs
+use Rattle.definition.specs.Class.{isBlankByte}
+use mathlib.Core.Path.{_≡_, sym, ap, _∙_}
+use Rattle.scan.proofs.Classes.{blank-is}
 
 returns : tie.Need-returns
-unfolding isBlank
-returns c = ap (λ (k : ℕ). eqb k 1) (c .class-of .ensures)
+unfolding isBlankByte
+returns c = sym (blank-is _)
 
 pub is-blank-spec : {M : Type 1} → statement M
-is-blank-spec = tie.close (tie.spec class-of-requires returns)
+is-blank-spec = tie.close (tie.spec returns)

@@ -3,39 +3,23 @@ use Rattle.scan.proofs.is_word_byte.Statement.{statement}
 use Rattle.scan.proofs.is_word_byte.Tie as tie
 use Rattle.scan.proofs.is_word_byte.Reads as reads
 use Rattle.scan.proofs.is_word_byte.Lts as lts
-use Rattle.scan.proofs.class_of.Reads as class-of-reads
-use borrow.Author.Tests.{eq-eqb, ne-eqb, lt-leb, le-leb, lt-ltb, le-ltb, eqb-true, eqb-false, leb-true, leb-false, ltb-true, ltb-false, not-true, not-false}
-use native.Mathlib.Omega.{arith}
-use native.Mathlib.Numerals.{add-one}
-use mathlib.Core.Path.{_≡_, refl, sym, ap, _∙_}
-use mathlib.Core.Bool.{Bool, true, false, _&&_, _||_, not}
-use mathlib.Core.List.{List, [], _∷_}
-use mathlib.Core.Logic.{⊎-elim}
-use Prim.Native.Nat.{ℕ, zero, suc, _+_, _-_, _*_, _≤_, _<_}
-use lib.Dec.{eqb, leb, ltb, eqb→eq}
-use lib.ListN.{length, drop, take, getD}
-use Rattle.definition.specs.Text.{Bytes, bytes, byteAt}
-use Rattle.definition.specs.Class.{classOf, isBlank, isWordByte, isBlankByte, isLetterByte, isDigitByte, among, markBytes}
-use Rattle.definition.specs.Scan.{from, first, second, begins, before}
-use Rattle.definition.specs.Comment.{endsLine, endsComment, lineLength}
-use Rattle.definition.specs.Directive.{endsWord}
-use Rattle.definition.specs.Attribute.{notBlank}
-use Rattle.definition.specs.Number.{isNumberByte, endsNumber}
-use Rattle.definition.specs.Place.{Place, after, afterAll, placeOf}
-use Rattle.scan.proofs.Table.{at}
-use Rattle.scan.proofs.Going.{inside, outside, first-from, second-from, moves, stops, ends, begins-first, begins-not, last-byte, closes, goes-on, place-more, place-end, feed, no-feed}
-use Rattle.scan.proofs.Past.{past}
-
-class-of-requires : tie.Need-class-of-requires
-class-of-requires c κs = search needs
+use mathlib.Core.Path.{_≡_, sym, ap, _∙_}
+use Rattle.scan.proofs.Classes.{word-low, word-high, word-past}
 
 returns : tie.Need-returns
-unfolding isWordByte
-returns c = rw (← c .before .class-of .ensures, eq-eqb _ _ (c .if1 .taken))
+returns c = word-low _ (c .if1 .taken)
+
+cast-result : tie.Need-cast-result
+cast-result c = search needs
+
+shr-result : tie.Need-shr-result
+shr-result c = search needs
 
 returns-2 : tie.Need-returns-2
-unfolding isWordByte
-returns-2 c = rw (← c .before .class-of .ensures, ne-eqb _ _ (c .if1 .left))
+returns-2 c = word-high _ (c .before .if1 .left) (c .if2 .taken)
+
+returns-3 : tie.Need-returns-3
+returns-3 c = sym (word-past _ (c .if2 .left))
 
 pub is-word-byte-spec : {M : Type 1} → statement M
-is-word-byte-spec = tie.close (tie.spec class-of-requires returns returns-2)
+is-word-byte-spec = tie.close (tie.spec returns cast-result shr-result returns-2 returns-3)

@@ -6,7 +6,7 @@ use Rattle.cutting.proofs.next.Reads as next-reads
 use Rattle.tokens.proofs.put.Reads as put-reads
 use Rattle.tokens.proofs.put_name.Reads as put-name-reads
 use native.Mathlib.Omega.{arith}
-use mathlib.Core.Path.{_≡_, refl, sym, _∙_}
+use mathlib.Core.Path.{_≡_, refl, _∙_}
 use Prim.Native.Nat.{_-_}
 use lib.ListN.{length}
 use borrow.Author.Needs.{needs}
@@ -16,13 +16,13 @@ use Rattle.tokens.specs.Going.{Linked}
 use Rattle.tokens.proofs.Rounds.{go-done, link-start, link-skip, link-token, link-name, link-refused, link-search, link-count, skip-on, token-on, name-on, rest-done, rest-refused}
 
 abbrev Inv-loop : tie.InvT-loop
-Inv-loop text kinds₀ places₀ numbers₀ heads₀ at₀ line₀ count₀ kinds places numbers heads at line count = Linked text at line count kinds places numbers heads (cut text) × (length kinds ≡ length kinds₀) × (length places ≡ length places₀) × (length numbers ≡ length numbers₀)
+Inv-loop text kinds₀ places₀ numbers₀ heads₀ at₀ line₀ count₀ kinds places numbers heads at line count = Linked text at line count kinds places numbers heads (cut text) × (length kinds ≡ length kinds₀) × (length places ≡ length places₀) × (length numbers ≡ length numbers₀) × (length heads ≡ length heads₀)
 
 abbrev μ-loop : tie.MeasureT-loop
 μ-loop text kinds₀ places₀ numbers₀ heads₀ at₀ line₀ count₀ kinds places numbers heads at line count = length text - at
 
 loop-holds : tie.Need-loop-holds Inv-loop μ-loop
-loop-holds c = (link-start _ _ _ _ _ (c .before .before .before .before .pre .0) (c .before .before .before .before .pre .1) refl, refl, refl, refl)
+loop-holds c = (link-start _ _ _ _ _ (c .before .before .before .before .before .pre .0) (c .before .before .before .before .before .pre .1 .0) (c .before .before .before .before .before .pre .1 .1 .0) (c .before .before .before .before .before .pre .1 .1 .1), refl, refl, refl, refl)
 
 next-requires : tie.Need-next-requires Inv-loop μ-loop
 next-requires c κs = search needs
@@ -34,7 +34,7 @@ loop-less : tie.Need-loop-less Inv-loop μ-loop
 loop-less c = let o = skip-on _ _ _ _ _ _ _ _ _ (c .before .before .before .before .before .loop .inv .0) (c .before .before .before .before .loop-test .taken) _ (c .before .before .before .next .ensures) _ _ (c .before .p .given .1) in omega (arith, o, c .before .before .before .before .loop-test .taken)
 
 loop-again : tie.Need-loop-again Inv-loop μ-loop
-loop-again c = (link-skip _ _ _ _ _ _ _ _ _ (c .before .before .before .before .before .loop .inv .0) (c .before .before .before .before .loop-test .taken) _ (c .before .before .before .next .ensures) _ _ (c .before .p .given .1), c .before .before .before .before .before .loop .inv .1, c .before .before .before .before .before .loop .inv .2, c .before .before .before .before .before .loop .inv .3)
+loop-again c = (link-skip _ _ _ _ _ _ _ _ _ (c .before .before .before .before .before .loop .inv .0) (c .before .before .before .before .loop-test .taken) _ (c .before .before .before .next .ensures) _ _ (c .before .p .given .1), c .before .before .before .before .before .loop .inv .1, c .before .before .before .before .before .loop .inv .2, c .before .before .before .before .before .loop .inv .3, c .before .before .before .before .before .loop .inv .4)
 
 enum-known-p-2 : tie.Need-enum-known-p-2 Inv-loop μ-loop
 enum-known-p-2 c = search needs
@@ -52,25 +52,22 @@ loop-less-2 : tie.Need-loop-less-2 Inv-loop μ-loop
 loop-less-2 c = let o = token-on _ _ _ _ _ _ _ _ _ (c .before .before .before .before .before .before .before .before .before .before .before .before .before .before .before .loop .inv .0) (c .before .before .before .before .before .before .before .before .before .before .before .before .before .before .loop-test .taken) _ (c .before .before .before .before .before .before .before .before .before .before .before .before .before .next .ensures) _ _ _ (c .before .before .before .before .before .before .before .before .before .before .before .p2 .given .1) in omega (arith, o, c .before .before .before .before .before .before .before .before .before .before .before .before .before .before .loop-test .taken)
 
 loop-again-2 : tie.Need-loop-again-2 Inv-loop μ-loop
-loop-again-2 c = (link-token _ _ _ _ _ _ _ _ _ (c .before .before .before .before .before .before .before .before .before .before .before .before .before .before .before .loop .inv .0) (c .before .before .before .before .before .before .before .before .before .before .before .before .before .before .loop-test .taken) _ (c .before .before .before .before .before .before .before .before .before .before .before .before .before .next .ensures) _ _ _ _ _ _ (c .before .before .before .before .before .before .before .before .before .before .before .p2 .given .1) (c .before .before .before .before .before .before .put .ensures .0) (c .before .before .before .before .before .before .put .ensures .1 .0) (c .before .before .before .before .before .before .put .ensures .1 .1), c .before .before .before .before .before .before .put .kept .0 ∙ c .before .before .before .before .before .before .before .before .before .before .before .before .before .before .before .loop .inv .1, c .before .before .before .before .before .before .put .kept .1 .0 ∙ c .before .before .before .before .before .before .before .before .before .before .before .before .before .before .before .loop .inv .2, c .before .before .before .before .before .before .put .kept .1 .1 .0 ∙ c .before .before .before .before .before .before .before .before .before .before .before .before .before .before .before .loop .inv .3)
+loop-again-2 c = (link-token _ _ _ _ _ _ _ _ _ (c .before .before .before .before .before .before .before .before .before .before .before .before .before .before .before .loop .inv .0) (c .before .before .before .before .before .before .before .before .before .before .before .before .before .before .loop-test .taken) _ (c .before .before .before .before .before .before .before .before .before .before .before .before .before .next .ensures) _ _ _ _ _ _ (c .before .before .before .before .before .before .before .before .before .before .before .p2 .given .1) (c .before .before .before .before .before .before .put .ensures .0) (c .before .before .before .before .before .before .put .ensures .1 .0) (c .before .before .before .before .before .before .put .ensures .1 .1), c .before .before .before .before .before .before .put .kept .0 ∙ c .before .before .before .before .before .before .before .before .before .before .before .before .before .before .before .loop .inv .1, c .before .before .before .before .before .before .put .kept .1 .0 ∙ c .before .before .before .before .before .before .before .before .before .before .before .before .before .before .before .loop .inv .2, c .before .before .before .before .before .before .put .kept .1 .1 .0 ∙ c .before .before .before .before .before .before .before .before .before .before .before .before .before .before .before .loop .inv .3, c .before .before .before .before .before .before .before .before .before .before .before .before .before .before .before .loop .inv .4)
 
 enum-known-p-3 : tie.Need-enum-known-p-3 Inv-loop μ-loop
 enum-known-p-3 c = search needs
-
-slice-aggregate-put-name : tie.Need-slice-aggregate-put-name Inv-loop μ-loop
-slice-aggregate-put-name c = sym (c .before .before .before .before .before .before .before .before .before .loop .inv .0 .hashes)
 
 put-name-requires : tie.Need-put-name-requires Inv-loop μ-loop
 put-name-requires c κs = link-search _ _ _ _ _ _ _ _ _ (c .before .before .before .before .before .before .before .before .before .loop .inv .0) (c .before .before .before .before .before .before .before .before .loop-test .taken) _ (c .before .before .before .before .before .before .before .next .ensures) _ _ (c .before .before .before .before .before .p3 .given .1)
 
 add-count-2 : tie.Need-add-count-2 Inv-loop μ-loop
-add-count-2 c = omega (arith, c .before .before .before .before .before .before .before .before .before .before .before .before .before .before .before .before .loop-test .taken, c .before .before .before .before .before .before .before .before .before .before .before .before .before .before .before .before .before .loop .inv .0 .going .few, c .before .before .before .before .before .before .before .before .before .before .before .before .before .before .before .before .before .loop .inv .0 .room .fits)
+add-count-2 c = omega (arith, c .before .before .before .before .before .before .before .before .before .before .before .before .before .before .before .before .before .loop-test .taken, c .before .before .before .before .before .before .before .before .before .before .before .before .before .before .before .before .before .before .loop .inv .0 .going .few, c .before .before .before .before .before .before .before .before .before .before .before .before .before .before .before .before .before .before .loop .inv .0 .room .fits)
 
 loop-less-3 : tie.Need-loop-less-3 Inv-loop μ-loop
-loop-less-3 c = let o = name-on _ _ _ _ _ _ _ _ _ (c .before .before .before .before .before .before .before .before .before .before .before .before .before .before .before .before .before .loop .inv .0) (c .before .before .before .before .before .before .before .before .before .before .before .before .before .before .before .before .loop-test .taken) _ (c .before .before .before .before .before .before .before .before .before .before .before .before .before .before .before .next .ensures) _ _ (c .before .before .before .before .before .before .before .before .before .before .before .before .before .p3 .given .1) in omega (arith, o, c .before .before .before .before .before .before .before .before .before .before .before .before .before .before .before .before .loop-test .taken)
+loop-less-3 c = let o = name-on _ _ _ _ _ _ _ _ _ (c .before .before .before .before .before .before .before .before .before .before .before .before .before .before .before .before .before .before .loop .inv .0) (c .before .before .before .before .before .before .before .before .before .before .before .before .before .before .before .before .before .loop-test .taken) _ (c .before .before .before .before .before .before .before .before .before .before .before .before .before .before .before .before .next .ensures) _ _ (c .before .before .before .before .before .before .before .before .before .before .before .before .before .before .p3 .given .1) in omega (arith, o, c .before .before .before .before .before .before .before .before .before .before .before .before .before .before .before .before .before .loop-test .taken)
 
 loop-again-3 : tie.Need-loop-again-3 Inv-loop μ-loop
-loop-again-3 c = (link-name _ _ _ _ _ _ _ _ _ (c .before .before .before .before .before .before .before .before .before .before .before .before .before .before .before .before .before .loop .inv .0) (c .before .before .before .before .before .before .before .before .before .before .before .before .before .before .before .before .loop-test .taken) _ (c .before .before .before .before .before .before .before .before .before .before .before .before .before .before .before .next .ensures) _ _ _ _ _ _ (c .before .before .before .before .before .before .before .before .before .before .before .before .before .p3 .given .1) (c .before .before .before .before .before .before .before .put-name .ensures) (c .before .before .before .before .before .before .before .put-name .kept .1 .1 .0), c .before .before .before .before .before .before .before .put-name .kept .1 .0 ∙ c .before .before .before .before .before .before .before .before .before .before .before .before .before .before .before .before .before .loop .inv .1, c .before .before .before .before .before .before .before .put-name .kept .1 .1 .0 ∙ c .before .before .before .before .before .before .before .before .before .before .before .before .before .before .before .before .before .loop .inv .2, c .before .before .before .before .before .before .before .put-name .kept .1 .1 .1 .0 ∙ c .before .before .before .before .before .before .before .before .before .before .before .before .before .before .before .before .before .loop .inv .3)
+loop-again-3 c = (link-name _ _ _ _ _ _ _ _ _ (c .before .before .before .before .before .before .before .before .before .before .before .before .before .before .before .before .before .before .loop .inv .0) (c .before .before .before .before .before .before .before .before .before .before .before .before .before .before .before .before .before .loop-test .taken) _ (c .before .before .before .before .before .before .before .before .before .before .before .before .before .before .before .before .next .ensures) _ _ _ _ _ _ (c .before .before .before .before .before .before .before .before .before .before .before .before .before .before .p3 .given .1) (c .before .before .before .before .before .before .before .before .put-name .ensures) (c .before .before .before .before .before .before .before .before .put-name .kept .1 .1 .0), c .before .before .before .before .before .before .before .before .put-name .kept .1 .0 ∙ c .before .before .before .before .before .before .before .before .before .before .before .before .before .before .before .before .before .before .loop .inv .1, c .before .before .before .before .before .before .before .before .put-name .kept .1 .1 .0 ∙ c .before .before .before .before .before .before .before .before .before .before .before .before .before .before .before .before .before .before .loop .inv .2, c .before .before .before .before .before .before .before .before .put-name .kept .1 .1 .1 .0 ∙ c .before .before .before .before .before .before .before .before .before .before .before .before .before .before .before .before .before .before .loop .inv .3, c .before .before .before .before .before .before .before .before .put-name .kept .1 .1 .1 .1 .0 ∙ c .before .before .before .before .before .before .before .before .before .before .before .before .before .before .before .before .before .before .loop .inv .4)
 
 enum-known-p-4 : tie.Need-enum-known-p-4 Inv-loop μ-loop
 enum-known-p-4 c = search needs
@@ -84,17 +81,23 @@ same-length-2 c = c .before .before .before .before .before .loop .inv .2
 same-length-3 : tie.Need-same-length-3 Inv-loop μ-loop
 same-length-3 c = c .before .before .before .before .before .loop .inv .3
 
+same-length-4 : tie.Need-same-length-4 Inv-loop μ-loop
+same-length-4 c = c .before .before .before .before .before .loop .inv .4
+
 returns : tie.Need-returns Inv-loop μ-loop
 returns c = (Fills.stop _ _ (link-refused _ _ _ _ _ _ _ _ _ (c .before .before .before .before .before .loop .inv .0) (c .before .before .before .before .loop-test .taken) _ (c .before .before .before .next .ensures) _ _ (c .before .p4 .given .1)) refl, rest-refused _ _ _)
 
-same-length-4 : tie.Need-same-length-4 Inv-loop μ-loop
-same-length-4 c = c .before .loop .inv .1
-
 same-length-5 : tie.Need-same-length-5 Inv-loop μ-loop
-same-length-5 c = c .before .loop .inv .2
+same-length-5 c = c .before .loop .inv .1
 
 same-length-6 : tie.Need-same-length-6 Inv-loop μ-loop
-same-length-6 c = c .before .loop .inv .3
+same-length-6 c = c .before .loop .inv .2
+
+same-length-7 : tie.Need-same-length-7 Inv-loop μ-loop
+same-length-7 c = c .before .loop .inv .3
+
+same-length-8 : tie.Need-same-length-8 Inv-loop μ-loop
+same-length-8 c = c .before .loop .inv .4
 
 returns-2 : tie.Need-returns-2 Inv-loop μ-loop
 returns-2 c = (go-done _ _ _ _ _ _ _ (c .before .loop .inv .0 .going) (c .loop-test .left), rest-done _ _ (c .before .loop .inv .0 .rest))
@@ -117,7 +120,6 @@ cut-all-spec =
     loop-less-2
     loop-again-2
     enum-known-p-3
-    slice-aggregate-put-name
     put-name-requires
     add-count-2
     loop-less-3
@@ -126,8 +128,10 @@ cut-all-spec =
     same-length
     same-length-2
     same-length-3
-    returns
     same-length-4
+    returns
     same-length-5
     same-length-6
+    same-length-7
+    same-length-8
     returns-2)

@@ -3,7 +3,7 @@ use Rattle.tokens.proofs.put_name.Statement.{statement}
 use Rattle.tokens.proofs.put_name.Tie as tie
 use Rattle.tokens.proofs.put_name.Reads as reads
 use Rattle.tokens.proofs.put_name.Lts as lts
-use Rattle.chains.proofs.hash.Reads as hash-reads
+use Rattle.chains.proofs.slot.Reads as slot-reads
 use Rattle.chains.proofs.walk.Reads as walk-reads
 use Rattle.tokens.proofs.put.Reads as put-reads
 use native.Mathlib.Omega.{arith}
@@ -11,17 +11,17 @@ use mathlib.Core.Path.{refl}
 use Rattle.definition.specs.Name.{nameOf}
 use Rattle.tokens.proofs.Stored.{walks, stored-known, stored-new}
 
-sub-hash : tie.Need-sub-hash
-sub-hash c = search needs
+sub-slot : tie.Need-sub-slot
+sub-slot c = search needs
 
-part-hash-start : tie.Need-part-hash-start
-part-hash-start c = search needs
+part-slot-start : tie.Need-part-slot-start
+part-slot-start c = search needs
 
-part-hash-end : tie.Need-part-hash-end
-part-hash-end c = search needs
+part-slot-end : tie.Need-part-slot-end
+part-slot-end c = search needs
 
-hash-requires : tie.Need-hash-requires
-hash-requires c κs = search needs
+slot-requires : tie.Need-slot-requires
+slot-requires c κs = search needs
 
 mul-head : tie.Need-mul-head
 mul-head c = search needs
@@ -30,10 +30,10 @@ slice-read-head : tie.Need-slice-read-head
 slice-read-head c = search needs
 
 cast-walk : tie.Need-cast-walk
-cast-walk c = let l = c .before .before .before .before .before .before .before .before .before .before .before .pre .chained .low (c .before .before .before .before .hash .result) in omega (arith, l)
+cast-walk c = let l = c .before .before .before .before .before .before .before .before .before .before .before .pre .chained .low (c .before .before .before .before .slot .result) in omega (arith, l)
 
 walk-requires : tie.Need-walk-requires
-walk-requires c κs = walks _ _ _ _ _ _ _ _ (c .before .before .before .before .before .before .before .before .before .before .before .pre) (c .before .before .before .before .hash .result) _ refl
+walk-requires c κs = walks _ _ _ _ _ _ _ _ (c .before .before .before .before .before .before .before .before .before .before .before .pre) (c .before .before .before .before .slot .result) _ refl
 
 cast-put : tie.Need-cast-put
 cast-put c = search needs
@@ -51,7 +51,7 @@ same-length-3 : tie.Need-same-length-3
 same-length-3 c = search needs
 
 returns : tie.Need-returns
-returns c = stored-known _ _ _ _ _ _ _ _ (c .before .before .before .before .before .before .before .before .before .before .before .before .before .before .before .before .before .before .before .before .before .before .before .pre) (c .before .before .before .before .before .before .before .before .before .before .before .before .before .before .before .before .hash .result) _ _ (c .before .before .before .before .before .before .before .before .before .before .before .before .before .before .before .before .hash .ensures .0) refl _ _ _ _ _ (c .before .before .before .before .before .before .before .before .before .before .before .walk .ensures) (c .before .before .before .before .before .before .before .before .before .before .if1 .taken) (c .before .before .before .before .before .before .put .ensures .0) (c .before .before .before .before .before .before .put .ensures .1 .0) (c .before .before .before .before .before .before .put .ensures .1 .1) refl
+returns c = stored-known _ _ _ _ _ _ _ _ (c .before .before .before .before .before .before .before .before .before .before .before .before .before .before .before .before .before .before .before .before .before .before .before .pre) (c .before .before .before .before .before .before .before .before .before .before .before .before .before .before .before .before .slot .result) _ _ (c .before .before .before .before .before .before .before .before .before .before .before .before .before .before .before .before .slot .ensures .0) refl _ _ _ _ _ (c .before .before .before .before .before .before .before .before .before .before .before .walk .ensures) (c .before .before .before .before .before .before .before .before .before .before .if1 .taken) (c .before .before .before .before .before .before .put .ensures .0) (c .before .before .before .before .before .before .put .ensures .1 .0) (c .before .before .before .before .before .before .put .ensures .1 .1) refl
 
 sub-name : tie.Need-sub-name
 sub-name c = search needs
@@ -63,13 +63,13 @@ add-name : tie.Need-add-name
 add-name c = search needs
 
 mul-place : tie.Need-mul-place
-mul-place c = let l = c .before .before .before .before .before .before .before .before .before .before .before .before .before .pre .chained .low (c .before .before .before .before .before .before .hash .result) in omega (arith, l, c .before .before .before .before .before .before .before .before .before .before .before .before .before .pre .few, c .before .before .before .before .before .before .before .before .before .before .before .before .before .pre .on, c .before .before .before .before .before .before .before .before .before .before .before .before .before .pre .ends, c .before .before .before .before .before .before .before .before .before .before .before .before .before .pre .short)
+mul-place c = let l = c .before .before .before .before .before .before .before .before .before .before .before .before .before .pre .chained .low (c .before .before .before .before .before .before .slot .result) in omega (arith, l, c .before .before .before .before .before .before .before .before .before .before .before .before .before .pre .few, c .before .before .before .before .before .before .before .before .before .before .before .before .before .pre .on, c .before .before .before .before .before .before .before .before .before .before .before .before .before .pre .ends, c .before .before .before .before .before .before .before .before .before .before .before .before .before .pre .short)
 
 cast-place : tie.Need-cast-place
 cast-place c = search needs
 
 add-place : tie.Need-add-place
-add-place c = let l = c .before .before .before .before .before .before .before .before .before .before .before .before .before .pre .chained .low (c .before .before .before .before .before .before .hash .result) in omega (arith, l, c .before .before .before .before .before .before .before .before .before .before .before .before .before .pre .few, c .before .before .before .before .before .before .before .before .before .before .before .before .before .pre .on, c .before .before .before .before .before .before .before .before .before .before .before .before .before .pre .ends, c .before .before .before .before .before .before .before .before .before .before .before .before .before .pre .short)
+add-place c = let l = c .before .before .before .before .before .before .before .before .before .before .before .before .before .pre .chained .low (c .before .before .before .before .before .before .slot .result) in omega (arith, l, c .before .before .before .before .before .before .before .before .before .before .before .before .before .pre .few, c .before .before .before .before .before .before .before .before .before .before .before .before .before .pre .on, c .before .before .before .before .before .before .before .before .before .before .before .before .before .pre .ends, c .before .before .before .before .before .before .before .before .before .before .before .before .before .pre .short)
 
 put-requires-2 : tie.Need-put-requires-2
 put-requires-2 c κs = search needs
@@ -100,16 +100,16 @@ same-length-7 c = search needs
 
 returns-2 : tie.Need-returns-2
 unfolding nameOf
-returns-2 c = stored-new _ _ _ _ _ _ _ _ (c .before .before .before .before .before .before .before .before .before .before .before .before .before .before .before .before .before .before .before .before .before .before .before .pre) (c .before .before .before .before .before .before .before .before .before .before .before .before .before .before .before .before .hash .result) _ _ (c .before .before .before .before .before .before .before .before .before .before .before .before .before .before .before .before .hash .ensures .0) refl _ _ _ _ _ (c .before .before .before .before .before .before .before .before .before .before .before .walk .ensures) (c .before .before .before .before .before .before .before .before .before .before .if1 .left) _ _ refl refl (c .before .before .before .before .before .before .put2 .ensures .0) (c .before .before .before .before .before .before .put2 .ensures .1 .0) (c .before .before .before .before .before .before .put2 .ensures .1 .1) refl (c .before .before .before .before .before .before .before .before .before .before .before .before .before .before .before .before .hash .ensures .1)
+returns-2 c = stored-new _ _ _ _ _ _ _ _ (c .before .before .before .before .before .before .before .before .before .before .before .before .before .before .before .before .before .before .before .before .before .before .before .pre) (c .before .before .before .before .before .before .before .before .before .before .before .before .before .before .before .before .slot .result) _ _ (c .before .before .before .before .before .before .before .before .before .before .before .before .before .before .before .before .slot .ensures .0) refl _ _ _ _ _ (c .before .before .before .before .before .before .before .before .before .before .before .walk .ensures) (c .before .before .before .before .before .before .before .before .before .before .if1 .left) _ _ refl refl (c .before .before .before .before .before .before .put2 .ensures .0) (c .before .before .before .before .before .before .put2 .ensures .1 .0) (c .before .before .before .before .before .before .put2 .ensures .1 .1) refl (c .before .before .before .before .before .before .before .before .before .before .before .before .before .before .before .before .slot .ensures .1)
 
 pub put-name-spec : {M : Type 1} → statement M
 put-name-spec =
     tie.close
     (tie.spec
-    sub-hash
-    part-hash-start
-    part-hash-end
-    hash-requires
+    sub-slot
+    part-slot-start
+    part-slot-end
+    slot-requires
     mul-head
     slice-read-head
     cast-walk

@@ -67,6 +67,7 @@ use Rattle.bodies.proofs.add_body.Reads as add-body-reads
 use Rattle.bodies.proofs.define_body.Reads as define-body-reads
 use Rattle.declarator_heads.proofs.Declared.new.Reads as new-reads
 use Rattle.declarator_heads.proofs.is_plain.Reads as is-plain-reads
+use Rattle.declarator_heads.proofs.is_plain_pointer.Reads as is-plain-pointer-reads
 use Rattle.declarator_heads.proofs.opens_declarator.Reads as opens-declarator-reads
 use Rattle.declarator_heads.proofs.stars.Reads as stars-reads
 use Rattle.deriving.proofs.apply.Reads as apply-reads
@@ -78,6 +79,7 @@ use Rattle.naming.proofs.name_at.Reads as name-at-reads
 use Rattle.parameter_entries.proofs.add_parameter.Reads as add-parameter-reads
 use Rattle.parameter_entries.proofs.is_void_list.Reads as is-void-list-reads
 use Rattle.parameter_entries.proofs.parameters_end.Reads as parameters-end-reads
+use Rattle.parser.proofs.pointer_type.Reads as pointer-type-reads
 use Rattle.parts.proofs.array_bound.Reads as array-bound-reads
 use Rattle.rows.proofs.tag_row.Reads as tag-row-reads
 use Rattle.specifier_words.proofs.has_base.Reads as has-base-reads
@@ -112,18 +114,15 @@ use Rattle.table.proofs.Rounds.{Going, starts, starts-at, turn, held-now}
 use Rattle.table.proofs.Shown.{got!, got-at, no!, call, fail, refuse, held, held-at, held-on, step-on, at-other}
 use Rattle.table.proofs.Steps.{there, is+, is-, ate, missed}
 use Rattle.table.specs.Reply.{step, move, ok, bad}
-use Rattle.parser.proofs.Declaring.{stops, no-declarator, stars-starting, stars-stop, stars-held, direct-stop, stars-wait, direct-done}
-use Rattle.parser.proofs.Plain.{by-direct}
+use Rattle.parser.proofs.Declaring.{stops, no-declarator, stars-starting, stars-stop, stars-held, unstarred, direct-stop, stars-wait, direct-done}
 
 pub declarator-new-requires : (t : ℕ) → declarator-lts.Need-new-requires (
   new-reads.Asked,
   new-reads.Learnt,
-  kind-at-reads.Asked,
-  kind-at-reads.Learnt,
-  direct-below t,
-  direct.Post,
   stars-reads.Asked,
   stars-reads.Learnt,
+  direct-below t,
+  direct.Post,
   release-stars-reads.Asked,
   release-stars-reads.Learnt,
 ) (declarator-at t) declarator.Post
@@ -132,138 +131,34 @@ declarator-new-requires t c κs = search needs
 pub declarator-returns : (t : ℕ) → declarator-lts.Need-returns (
   new-reads.Asked,
   new-reads.Learnt,
-  kind-at-reads.Asked,
-  kind-at-reads.Learnt,
-  direct-below t,
-  direct.Post,
   stars-reads.Asked,
   stars-reads.Learnt,
+  direct-below t,
+  direct.Post,
   release-stars-reads.Asked,
   release-stars-reads.Learnt,
 ) (declarator-at t) declarator.Post
 declarator-returns t c = stops (ap (λ x. x .answer) (c .new .ensures)) (λ b h. by (no-declarator _ _ _ _ (c .before .if1 .taken)) (no! refl))
 
-pub declarator-kind-at-requires : (t : ℕ) → declarator-lts.Need-kind-at-requires (
-  new-reads.Asked,
-  new-reads.Learnt,
-  kind-at-reads.Asked,
-  kind-at-reads.Learnt,
-  direct-below t,
-  direct.Post,
-  stars-reads.Asked,
-  stars-reads.Learnt,
-  release-stars-reads.Asked,
-  release-stars-reads.Learnt,
-) (declarator-at t) declarator.Post
-declarator-kind-at-requires t c κs = search needs
-
-pub declarator-sub-direct : (t : ℕ) → declarator-lts.Need-sub-direct (
-  new-reads.Asked,
-  new-reads.Learnt,
-  kind-at-reads.Asked,
-  kind-at-reads.Learnt,
-  direct-below t,
-  direct.Post,
-  stars-reads.Asked,
-  stars-reads.Learnt,
-  release-stars-reads.Asked,
-  release-stars-reads.Learnt,
-) (declarator-at t) declarator.Post
-declarator-sub-direct t c = omega (arith, c .before .before .before .before .before .if1 .left)
-
-pub declarator-direct-requires : (t : ℕ) → declarator-lts.Need-direct-requires (
-  new-reads.Asked,
-  new-reads.Learnt,
-  kind-at-reads.Asked,
-  kind-at-reads.Learnt,
-  direct-below t,
-  direct.Post,
-  stars-reads.Asked,
-  stars-reads.Learnt,
-  release-stars-reads.Asked,
-  release-stars-reads.Learnt,
-) (declarator-at t) declarator.Post
-declarator-direct-requires t c κs = (omega (arith, c .before .before .before .before .before .before .before .before .before .before .pre .0, c .before .before .before .before .before .if1 .left), (c .before .before .before .before .before .before .before .before .before .before .pre .1 .0, (c .before .before .before .before .before .before .before .before .before .before .pre .1 .1 .0, c .before .before .before .before .before .before .before .before .before .before .pre .1 .1 .1)))
-
-pub declarator-same-length : (t : ℕ) → declarator-lts.Need-same-length (
-  new-reads.Asked,
-  new-reads.Learnt,
-  kind-at-reads.Asked,
-  kind-at-reads.Learnt,
-  direct-below t,
-  direct.Post,
-  stars-reads.Asked,
-  stars-reads.Learnt,
-  release-stars-reads.Asked,
-  release-stars-reads.Learnt,
-) (declarator-at t) declarator.Post
-declarator-same-length t c = search needs
-
-pub declarator-same-length-2 : (t : ℕ) → declarator-lts.Need-same-length-2 (
-  new-reads.Asked,
-  new-reads.Learnt,
-  kind-at-reads.Asked,
-  kind-at-reads.Learnt,
-  direct-below t,
-  direct.Post,
-  stars-reads.Asked,
-  stars-reads.Learnt,
-  release-stars-reads.Asked,
-  release-stars-reads.Learnt,
-) (declarator-at t) declarator.Post
-declarator-same-length-2 t c = search needs
-
-pub declarator-same-length-3 : (t : ℕ) → declarator-lts.Need-same-length-3 (
-  new-reads.Asked,
-  new-reads.Learnt,
-  kind-at-reads.Asked,
-  kind-at-reads.Learnt,
-  direct-below t,
-  direct.Post,
-  stars-reads.Asked,
-  stars-reads.Learnt,
-  release-stars-reads.Asked,
-  release-stars-reads.Learnt,
-) (declarator-at t) declarator.Post
-declarator-same-length-3 t c = search needs
-
-pub declarator-returns-2 : (t : ℕ) → declarator-lts.Need-returns-2 (
-  new-reads.Asked,
-  new-reads.Learnt,
-  kind-at-reads.Asked,
-  kind-at-reads.Learnt,
-  direct-below t,
-  direct.Post,
-  stars-reads.Asked,
-  stars-reads.Learnt,
-  release-stars-reads.Asked,
-  release-stars-reads.Learnt,
-) (declarator-at t) declarator.Post
-declarator-returns-2 t c = by-direct _ _ _ _ (c .before .before .before .before .before .before .before .before .before .before .before .if1 .left) (c .before .before .before .before .before .before .before .before .before .before .kind-at .ensures) (c .before .before .before .before .before .before .before .before .before .if2 .taken) (c .before .before .before .before .before .direct .ensures)
-
 pub declarator-stars-requires : (t : ℕ) → declarator-lts.Need-stars-requires (
   new-reads.Asked,
   new-reads.Learnt,
-  kind-at-reads.Asked,
-  kind-at-reads.Learnt,
-  direct-below t,
-  direct.Post,
   stars-reads.Asked,
   stars-reads.Learnt,
+  direct-below t,
+  direct.Post,
   release-stars-reads.Asked,
   release-stars-reads.Learnt,
 ) (declarator-at t) declarator.Post
-declarator-stars-requires t c κs = omega (arith, c .before .before .before .before .before .before .before .pre .1 .1 .1 .waiting .apart)
+declarator-stars-requires t c κs = omega (arith, c .before .before .before .before .before .pre .1 .1 .1 .waiting .apart)
 
 pub declarator-enum-known-read : (t : ℕ) → declarator-lts.Need-enum-known-read (
   new-reads.Asked,
   new-reads.Learnt,
-  kind-at-reads.Asked,
-  kind-at-reads.Learnt,
-  direct-below t,
-  direct.Post,
   stars-reads.Asked,
   stars-reads.Learnt,
+  direct-below t,
+  direct.Post,
   release-stars-reads.Asked,
   release-stars-reads.Learnt,
 ) (declarator-at t) declarator.Post
@@ -272,68 +167,106 @@ declarator-enum-known-read t c = search needs
 pub declarator-enum-told : (t : ℕ) → declarator-lts.Need-enum-told (
   new-reads.Asked,
   new-reads.Learnt,
-  kind-at-reads.Asked,
-  kind-at-reads.Learnt,
-  direct-below t,
-  direct.Post,
   stars-reads.Asked,
   stars-reads.Learnt,
+  direct-below t,
+  direct.Post,
   release-stars-reads.Asked,
   release-stars-reads.Learnt,
 ) (declarator-at t) declarator.Post
 declarator-enum-told t c = search needs
 
+pub declarator-returns-2 : (t : ℕ) → declarator-lts.Need-returns-2 (
+  new-reads.Asked,
+  new-reads.Learnt,
+  stars-reads.Asked,
+  stars-reads.Learnt,
+  direct-below t,
+  direct.Post,
+  release-stars-reads.Asked,
+  release-stars-reads.Learnt,
+) (declarator-at t) declarator.Post
+declarator-returns-2 t c = stars-stop _ _ _ _ _ _ _ (c .before .before .before .before .before .before .before .before .before .pre .1 .1 .1) (c .before .before .before .before .if1 .left) (c .before .before .before .stars .ensures) (c .enum-told .given .1)
+
+pub declarator-sub-direct : (t : ℕ) → declarator-lts.Need-sub-direct (
+  new-reads.Asked,
+  new-reads.Learnt,
+  stars-reads.Asked,
+  stars-reads.Learnt,
+  direct-below t,
+  direct.Post,
+  release-stars-reads.Asked,
+  release-stars-reads.Learnt,
+) (declarator-at t) declarator.Post
+declarator-sub-direct t c = omega (arith, c .before .before .before .before .before .before .before .before .if1 .left)
+
+pub declarator-direct-requires : (t : ℕ) → declarator-lts.Need-direct-requires (
+  new-reads.Asked,
+  new-reads.Learnt,
+  stars-reads.Asked,
+  stars-reads.Learnt,
+  direct-below t,
+  direct.Post,
+  release-stars-reads.Asked,
+  release-stars-reads.Learnt,
+) (declarator-at t) declarator.Post
+declarator-direct-requires t c κs = (omega (arith, c .before .before .before .before .before .before .before .before .before .before .before .before .before .pre .0, c .before .before .before .before .before .before .before .before .if1 .left), (stars-held (c .before .before .before .before .before .before .before .stars .ensures) (c .before .before .before .before .read .given .1) (c .before .before .before .before .before .before .before .before .before .before .before .before .before .pre .1 .0), (c .before .before .before .before .before .before .before .before .before .before .before .before .before .pre .1 .1 .0, stars-starting (c .before .before .before .before .before .before .before .before .before .before .before .before .before .pre .1 .1 .1) (c .before .before .before .before .before .before .before .stars .ensures))))
+
+pub declarator-same-length : (t : ℕ) → declarator-lts.Need-same-length (
+  new-reads.Asked,
+  new-reads.Learnt,
+  stars-reads.Asked,
+  stars-reads.Learnt,
+  direct-below t,
+  direct.Post,
+  release-stars-reads.Asked,
+  release-stars-reads.Learnt,
+) (declarator-at t) declarator.Post
+declarator-same-length t c = search needs
+
+pub declarator-same-length-2 : (t : ℕ) → declarator-lts.Need-same-length-2 (
+  new-reads.Asked,
+  new-reads.Learnt,
+  stars-reads.Asked,
+  stars-reads.Learnt,
+  direct-below t,
+  direct.Post,
+  release-stars-reads.Asked,
+  release-stars-reads.Learnt,
+) (declarator-at t) declarator.Post
+declarator-same-length-2 t c = search needs
+
+pub declarator-same-length-3 : (t : ℕ) → declarator-lts.Need-same-length-3 (
+  new-reads.Asked,
+  new-reads.Learnt,
+  stars-reads.Asked,
+  stars-reads.Learnt,
+  direct-below t,
+  direct.Post,
+  release-stars-reads.Asked,
+  release-stars-reads.Learnt,
+) (declarator-at t) declarator.Post
+declarator-same-length-3 t c = search needs
+
 pub declarator-returns-3 : (t : ℕ) → declarator-lts.Need-returns-3 (
   new-reads.Asked,
   new-reads.Learnt,
-  kind-at-reads.Asked,
-  kind-at-reads.Learnt,
-  direct-below t,
-  direct.Post,
   stars-reads.Asked,
   stars-reads.Learnt,
+  direct-below t,
+  direct.Post,
   release-stars-reads.Asked,
   release-stars-reads.Learnt,
 ) (declarator-at t) declarator.Post
-declarator-returns-3 t c = stars-stop _ _ _ _ _ _ _ (c .before .before .before .before .before .before .before .before .before .before .before .pre .1 .1 .1) (c .before .before .before .before .before .before .if1 .left) (c .before .before .before .stars .ensures) (c .enum-told .given .1)
-
-pub declarator-sub-direct-2 : (t : ℕ) → declarator-lts.Need-sub-direct-2 (
-  new-reads.Asked,
-  new-reads.Learnt,
-  kind-at-reads.Asked,
-  kind-at-reads.Learnt,
-  direct-below t,
-  direct.Post,
-  stars-reads.Asked,
-  stars-reads.Learnt,
-  release-stars-reads.Asked,
-  release-stars-reads.Learnt,
-) (declarator-at t) declarator.Post
-declarator-sub-direct-2 t c = omega (arith, c .before .before .before .before .before .before .before .before .before .before .if1 .left)
-
-pub declarator-direct-requires-2 : (t : ℕ) → declarator-lts.Need-direct-requires-2 (
-  new-reads.Asked,
-  new-reads.Learnt,
-  kind-at-reads.Asked,
-  kind-at-reads.Learnt,
-  direct-below t,
-  direct.Post,
-  stars-reads.Asked,
-  stars-reads.Learnt,
-  release-stars-reads.Asked,
-  release-stars-reads.Learnt,
-) (declarator-at t) declarator.Post
-declarator-direct-requires-2 t c κs = (omega (arith, c .before .before .before .before .before .before .before .before .before .before .before .before .before .before .before .pre .0, c .before .before .before .before .before .before .before .before .before .before .if1 .left), (stars-held (c .before .before .before .before .before .before .before .stars .ensures) (c .before .before .before .before .read .given .1) (c .before .before .before .before .before .before .before .before .before .before .before .before .before .before .before .pre .1 .0), (c .before .before .before .before .before .before .before .before .before .before .before .before .before .before .before .pre .1 .1 .0, stars-starting (c .before .before .before .before .before .before .before .before .before .before .before .before .before .before .before .pre .1 .1 .1) (c .before .before .before .before .before .before .before .stars .ensures))))
+declarator-returns-3 t c = unstarred _ _ _ _ _ _ _ (c .before .before .before .before .before .before .before .before .before .before .before .before .before .before .before .before .before .before .before .before .pre .1 .1 .1) (c .before .before .before .before .before .before .before .before .before .before .before .before .before .before .before .if1 .left) (c .before .before .before .before .before .before .before .before .before .before .before .before .before .before .stars .ensures) (c .before .before .before .before .before .before .before .before .before .before .before .read .given .1) (c .before .before .before .before .before .before .direct .ensures) (c .if2 .taken)
 
 pub declarator-enum-told-2 : (t : ℕ) → declarator-lts.Need-enum-told-2 (
   new-reads.Asked,
   new-reads.Learnt,
-  kind-at-reads.Asked,
-  kind-at-reads.Learnt,
-  direct-below t,
-  direct.Post,
   stars-reads.Asked,
   stars-reads.Learnt,
+  direct-below t,
+  direct.Post,
   release-stars-reads.Asked,
   release-stars-reads.Learnt,
 ) (declarator-at t) declarator.Post
@@ -342,12 +275,10 @@ declarator-enum-told-2 t c = search needs
 pub declarator-enum-told-3 : (t : ℕ) → declarator-lts.Need-enum-told-3 (
   new-reads.Asked,
   new-reads.Learnt,
-  kind-at-reads.Asked,
-  kind-at-reads.Learnt,
-  direct-below t,
-  direct.Post,
   stars-reads.Asked,
   stars-reads.Learnt,
+  direct-below t,
+  direct.Post,
   release-stars-reads.Asked,
   release-stars-reads.Learnt,
 ) (declarator-at t) declarator.Post
@@ -356,12 +287,10 @@ declarator-enum-told-3 t c = search needs
 pub declarator-same-length-4 : (t : ℕ) → declarator-lts.Need-same-length-4 (
   new-reads.Asked,
   new-reads.Learnt,
-  kind-at-reads.Asked,
-  kind-at-reads.Learnt,
-  direct-below t,
-  direct.Post,
   stars-reads.Asked,
   stars-reads.Learnt,
+  direct-below t,
+  direct.Post,
   release-stars-reads.Asked,
   release-stars-reads.Learnt,
 ) (declarator-at t) declarator.Post
@@ -370,12 +299,10 @@ declarator-same-length-4 t c = search needs
 pub declarator-same-length-5 : (t : ℕ) → declarator-lts.Need-same-length-5 (
   new-reads.Asked,
   new-reads.Learnt,
-  kind-at-reads.Asked,
-  kind-at-reads.Learnt,
-  direct-below t,
-  direct.Post,
   stars-reads.Asked,
   stars-reads.Learnt,
+  direct-below t,
+  direct.Post,
   release-stars-reads.Asked,
   release-stars-reads.Learnt,
 ) (declarator-at t) declarator.Post
@@ -384,12 +311,10 @@ declarator-same-length-5 t c = search needs
 pub declarator-same-length-6 : (t : ℕ) → declarator-lts.Need-same-length-6 (
   new-reads.Asked,
   new-reads.Learnt,
-  kind-at-reads.Asked,
-  kind-at-reads.Learnt,
-  direct-below t,
-  direct.Post,
   stars-reads.Asked,
   stars-reads.Learnt,
+  direct-below t,
+  direct.Post,
   release-stars-reads.Asked,
   release-stars-reads.Learnt,
 ) (declarator-at t) declarator.Post
@@ -398,54 +323,46 @@ declarator-same-length-6 t c = search needs
 pub declarator-returns-4 : (t : ℕ) → declarator-lts.Need-returns-4 (
   new-reads.Asked,
   new-reads.Learnt,
-  kind-at-reads.Asked,
-  kind-at-reads.Learnt,
-  direct-below t,
-  direct.Post,
   stars-reads.Asked,
   stars-reads.Learnt,
+  direct-below t,
+  direct.Post,
   release-stars-reads.Asked,
   release-stars-reads.Learnt,
 ) (declarator-at t) declarator.Post
-declarator-returns-4 t c = direct-stop _ _ _ _ _ _ _ (c .before .before .before .before .before .before .before .before .before .before .before .before .before .before .before .before .before .before .before .before .before .before .before .before .pre .1 .1 .1) (c .before .before .before .before .before .before .before .before .before .before .before .before .before .before .before .before .before .before .before .if1 .left) (c .before .before .before .before .before .before .before .before .before .before .before .before .before .before .before .before .stars .ensures) (c .before .before .before .before .before .before .before .before .before .before .before .before .before .read .given .1) (c .before .before .before .before .before .before .before .before .direct2 .ensures) (c .enum-told3 .given .1)
+declarator-returns-4 t c = direct-stop _ _ _ _ _ _ _ (c .before .before .before .before .before .before .before .before .before .before .before .before .before .before .before .before .before .before .before .before .before .before .before .pre .1 .1 .1) (c .before .before .before .before .before .before .before .before .before .before .before .before .before .before .before .before .before .before .if1 .left) (c .before .before .before .before .before .before .before .before .before .before .before .before .before .before .before .before .before .stars .ensures) (c .before .before .before .before .before .before .before .before .before .before .before .before .before .before .read .given .1) (c .before .before .before .before .before .before .before .before .before .direct .ensures) (c .enum-told3 .given .1)
 
 pub declarator-sub-release-stars : (t : ℕ) → declarator-lts.Need-sub-release-stars (
   new-reads.Asked,
   new-reads.Learnt,
-  kind-at-reads.Asked,
-  kind-at-reads.Learnt,
-  direct-below t,
-  direct.Post,
   stars-reads.Asked,
   stars-reads.Learnt,
+  direct-below t,
+  direct.Post,
   release-stars-reads.Asked,
   release-stars-reads.Learnt,
 ) (declarator-at t) declarator.Post
-declarator-sub-release-stars t c = omega (arith, c .before .before .before .before .before .before .before .before .before .before .before .before .before .before .before .before .stars .ensures .holds .held)
+declarator-sub-release-stars t c = omega (arith, c .before .before .before .before .before .before .before .before .before .before .before .before .before .before .before .before .before .stars .ensures .holds .held)
 
 pub declarator-release-stars-requires : (t : ℕ) → declarator-lts.Need-release-stars-requires (
   new-reads.Asked,
   new-reads.Learnt,
-  kind-at-reads.Asked,
-  kind-at-reads.Learnt,
-  direct-below t,
-  direct.Post,
   stars-reads.Asked,
   stars-reads.Learnt,
+  direct-below t,
+  direct.Post,
   release-stars-reads.Asked,
   release-stars-reads.Learnt,
 ) (declarator-at t) declarator.Post
-declarator-release-stars-requires t c κs = stars-wait _ _ _ _ _ _ _ (c .before .before .before .before .before .before .before .before .before .before .before .before .before .before .before .before .before .before .before .before .before .before .before .before .pre .1 .1 .1) (c .before .before .before .before .before .before .before .before .before .before .before .before .before .before .before .before .before .before .before .if1 .left) (c .before .before .before .before .before .before .before .before .before .before .before .before .before .before .before .before .stars .ensures) (c .before .before .before .before .before .before .before .before .before .before .before .before .before .read .given .1) (c .before .before .before .before .before .before .before .before .direct2 .ensures) (c .enum-told2 .given .1)
+declarator-release-stars-requires t c κs = stars-wait _ _ _ _ _ _ _ (c .before .before .before .before .before .before .before .before .before .before .before .before .before .before .before .before .before .before .before .before .before .before .before .pre .1 .1 .1) (c .before .before .before .before .before .before .before .before .before .before .before .before .before .before .before .before .before .before .if1 .left) (c .before .before .before .before .before .before .before .before .before .before .before .before .before .before .before .before .before .stars .ensures) (c .before .before .before .before .before .before .before .before .before .before .before .before .before .before .read .given .1) (c .before .before .before .before .before .before .before .before .before .direct .ensures) (c .enum-told2 .given .1)
 
 pub declarator-new-requires-2 : (t : ℕ) → declarator-lts.Need-new-requires-2 (
   new-reads.Asked,
   new-reads.Learnt,
-  kind-at-reads.Asked,
-  kind-at-reads.Learnt,
-  direct-below t,
-  direct.Post,
   stars-reads.Asked,
   stars-reads.Learnt,
+  direct-below t,
+  direct.Post,
   release-stars-reads.Asked,
   release-stars-reads.Learnt,
 ) (declarator-at t) declarator.Post
@@ -454,12 +371,10 @@ declarator-new-requires-2 t c κs = search needs
 pub declarator-same-length-7 : (t : ℕ) → declarator-lts.Need-same-length-7 (
   new-reads.Asked,
   new-reads.Learnt,
-  kind-at-reads.Asked,
-  kind-at-reads.Learnt,
-  direct-below t,
-  direct.Post,
   stars-reads.Asked,
   stars-reads.Learnt,
+  direct-below t,
+  direct.Post,
   release-stars-reads.Asked,
   release-stars-reads.Learnt,
 ) (declarator-at t) declarator.Post
@@ -468,12 +383,10 @@ declarator-same-length-7 t c = search needs
 pub declarator-same-length-8 : (t : ℕ) → declarator-lts.Need-same-length-8 (
   new-reads.Asked,
   new-reads.Learnt,
-  kind-at-reads.Asked,
-  kind-at-reads.Learnt,
-  direct-below t,
-  direct.Post,
   stars-reads.Asked,
   stars-reads.Learnt,
+  direct-below t,
+  direct.Post,
   release-stars-reads.Asked,
   release-stars-reads.Learnt,
 ) (declarator-at t) declarator.Post
@@ -482,12 +395,10 @@ declarator-same-length-8 t c = search needs
 pub declarator-same-length-9 : (t : ℕ) → declarator-lts.Need-same-length-9 (
   new-reads.Asked,
   new-reads.Learnt,
-  kind-at-reads.Asked,
-  kind-at-reads.Learnt,
-  direct-below t,
-  direct.Post,
   stars-reads.Asked,
   stars-reads.Learnt,
+  direct-below t,
+  direct.Post,
   release-stars-reads.Asked,
   release-stars-reads.Learnt,
 ) (declarator-at t) declarator.Post
@@ -496,13 +407,11 @@ declarator-same-length-9 t c = search needs
 pub declarator-returns-5 : (t : ℕ) → declarator-lts.Need-returns-5 (
   new-reads.Asked,
   new-reads.Learnt,
-  kind-at-reads.Asked,
-  kind-at-reads.Learnt,
-  direct-below t,
-  direct.Post,
   stars-reads.Asked,
   stars-reads.Learnt,
+  direct-below t,
+  direct.Post,
   release-stars-reads.Asked,
   release-stars-reads.Learnt,
 ) (declarator-at t) declarator.Post
-declarator-returns-5 t c = direct-done _ _ _ _ _ _ _ (c .before .before .before .before .before .before .before .before .before .before .before .before .before .before .before .before .before .before .before .before .before .before .before .before .before .before .pre .1 .1 .1) (c .before .before .before .before .before .before .before .before .before .before .before .before .before .before .before .before .before .before .before .before .before .if1 .left) (c .before .before .before .before .before .before .before .before .before .before .before .before .before .before .before .before .before .before .stars .ensures) (c .before .before .before .before .before .before .before .before .before .before .before .before .before .before .before .read .given .1) (c .before .before .before .before .before .before .before .before .before .before .direct2 .ensures) (c .before .before .enum-told2 .given .1) _ (c .before .release-stars .ensures) (c .before .before .enum-told2 .given .1) (c .new2 .ensures)
+declarator-returns-5 t c = direct-done _ _ _ _ _ _ _ (c .before .before .before .before .before .before .before .before .before .before .before .before .before .before .before .before .before .before .before .before .before .before .before .before .before .pre .1 .1 .1) (c .before .before .before .before .before .before .before .before .before .before .before .before .before .before .before .before .before .before .before .before .if1 .left) (c .before .before .before .before .before .before .before .before .before .before .before .before .before .before .before .before .before .before .before .stars .ensures) (c .before .before .before .before .before .before .before .before .before .before .before .before .before .before .before .before .read .given .1) (c .before .before .before .before .before .before .before .before .before .before .before .direct .ensures) (c .before .before .enum-told2 .given .1) _ (c .before .release-stars .ensures) (c .before .before .enum-told2 .given .1) (c .new2 .ensures)

@@ -67,6 +67,7 @@ use Rattle.bodies.proofs.add_body.Reads as add-body-reads
 use Rattle.bodies.proofs.define_body.Reads as define-body-reads
 use Rattle.declarator_heads.proofs.Declared.new.Reads as new-reads
 use Rattle.declarator_heads.proofs.is_plain.Reads as is-plain-reads
+use Rattle.declarator_heads.proofs.is_plain_pointer.Reads as is-plain-pointer-reads
 use Rattle.declarator_heads.proofs.opens_declarator.Reads as opens-declarator-reads
 use Rattle.declarator_heads.proofs.stars.Reads as stars-reads
 use Rattle.deriving.proofs.apply.Reads as apply-reads
@@ -78,6 +79,7 @@ use Rattle.naming.proofs.name_at.Reads as name-at-reads
 use Rattle.parameter_entries.proofs.add_parameter.Reads as add-parameter-reads
 use Rattle.parameter_entries.proofs.is_void_list.Reads as is-void-list-reads
 use Rattle.parameter_entries.proofs.parameters_end.Reads as parameters-end-reads
+use Rattle.parser.proofs.pointer_type.Reads as pointer-type-reads
 use Rattle.parts.proofs.array_bound.Reads as array-bound-reads
 use Rattle.rows.proofs.tag_row.Reads as tag-row-reads
 use Rattle.specifier_words.proofs.has_base.Reads as has-base-reads
@@ -113,7 +115,7 @@ use Rattle.table.proofs.Shown.{got!, got-at, no!, call, fail, refuse, held, hel
 use Rattle.table.proofs.Steps.{there, is+, is-, ate, missed}
 use Rattle.table.specs.Reply.{step, move, ok, bad}
 use Rattle.parser.proofs.Declaring.{starts-empty, typed-stop, declared-held, declared-few, typed-refused, typed-done}
-use Rattle.parser.proofs.Plain.{a-name, name-there, is-alone, has-levels, typed-plain}
+use Rattle.parser.proofs.Plain.{a-name, name-there, is-so, has-levels, typed-plain}
 
 pub declared-type-is-plain-requires : (t : ℕ) → declared-type-lts.Need-is-plain-requires (
   is-plain-reads.Asked,
@@ -122,6 +124,10 @@ pub declared-type-is-plain-requires : (t : ℕ) → declared-type-lts.Need-is-pl
   moved-reads.Learnt,
   name-at-reads.Asked,
   name-at-reads.Learnt,
+  is-plain-pointer-reads.Asked,
+  is-plain-pointer-reads.Learnt,
+  pointer-type-reads.Asked,
+  pointer-type-reads.Learnt,
   empty-reads.Asked,
   empty-reads.Learnt,
   declarator-below t,
@@ -138,6 +144,10 @@ pub declared-type-add-moved : (t : ℕ) → declared-type-lts.Need-add-moved (
   moved-reads.Learnt,
   name-at-reads.Asked,
   name-at-reads.Learnt,
+  is-plain-pointer-reads.Asked,
+  is-plain-pointer-reads.Learnt,
+  pointer-type-reads.Asked,
+  pointer-type-reads.Learnt,
   empty-reads.Asked,
   empty-reads.Learnt,
   declarator-below t,
@@ -145,7 +155,7 @@ pub declared-type-add-moved : (t : ℕ) → declared-type-lts.Need-add-moved (
   apply-reads.Asked,
   apply-reads.Learnt,
 ) (declared-type-at t) declared-type.Post
-declared-type-add-moved t c = omega (arith, name-there _ _ (is-alone _ _ _ (c .before .is-plain .ensures) (c .if1 .taken)))
+declared-type-add-moved t c = omega (arith, name-there _ _ (is-so _ (c .before .is-plain .ensures) (c .if1 .taken)))
 
 pub declared-type-moved-requires : (t : ℕ) → declared-type-lts.Need-moved-requires (
   is-plain-reads.Asked,
@@ -154,6 +164,10 @@ pub declared-type-moved-requires : (t : ℕ) → declared-type-lts.Need-moved-re
   moved-reads.Learnt,
   name-at-reads.Asked,
   name-at-reads.Learnt,
+  is-plain-pointer-reads.Asked,
+  is-plain-pointer-reads.Learnt,
+  pointer-type-reads.Asked,
+  pointer-type-reads.Learnt,
   empty-reads.Asked,
   empty-reads.Learnt,
   declarator-below t,
@@ -170,6 +184,10 @@ pub declared-type-name-at-requires : (t : ℕ) → declared-type-lts.Need-name-a
   moved-reads.Learnt,
   name-at-reads.Asked,
   name-at-reads.Learnt,
+  is-plain-pointer-reads.Asked,
+  is-plain-pointer-reads.Learnt,
+  pointer-type-reads.Asked,
+  pointer-type-reads.Learnt,
   empty-reads.Asked,
   empty-reads.Learnt,
   declarator-below t,
@@ -177,7 +195,7 @@ pub declared-type-name-at-requires : (t : ℕ) → declared-type-lts.Need-name-a
   apply-reads.Asked,
   apply-reads.Learnt,
 ) (declared-type-at t) declared-type.Post
-declared-type-name-at-requires t c κs = c .before .before .before .before .before .before .before .pre .1 .1 .names .fit _ (a-name _ _ (is-alone _ _ _ (c .before .before .is-plain .ensures) (c .before .if1 .taken)))
+declared-type-name-at-requires t c κs = c .before .before .before .before .before .before .before .pre .1 .1 .names .fit _ (a-name _ _ (is-so _ (c .before .before .is-plain .ensures) (c .before .if1 .taken)))
 
 pub declared-type-returns : (t : ℕ) → declared-type-lts.Need-returns (
   is-plain-reads.Asked,
@@ -186,6 +204,10 @@ pub declared-type-returns : (t : ℕ) → declared-type-lts.Need-returns (
   moved-reads.Learnt,
   name-at-reads.Asked,
   name-at-reads.Learnt,
+  is-plain-pointer-reads.Asked,
+  is-plain-pointer-reads.Learnt,
+  pointer-type-reads.Asked,
+  pointer-type-reads.Learnt,
   empty-reads.Asked,
   empty-reads.Learnt,
   declarator-below t,
@@ -193,15 +215,40 @@ pub declared-type-returns : (t : ℕ) → declared-type-lts.Need-returns (
   apply-reads.Asked,
   apply-reads.Learnt,
 ) (declared-type-at t) declared-type.Post
-declared-type-returns t c = typed-plain _ _ _ _ _ (has-levels _ (c .before .before .before .is-plain .ensures) (c .before .before .if1 .taken)) (is-alone _ _ _ (c .before .before .before .is-plain .ensures) (c .before .before .if1 .taken)) (c .name-at .ensures) (c .before .moved .ensures)
+declared-type-returns t c = typed-plain _ _ _ _ _ _ (has-levels _ (c .before .before .before .is-plain .ensures) (c .before .before .if1 .taken)) (is-so _ (c .before .before .before .is-plain .ensures) (c .before .before .if1 .taken)) (c .name-at .ensures) (c .before .moved .ensures)
 
-pub declared-type-empty-requires : (t : ℕ) → declared-type-lts.Need-empty-requires (
+pub declared-type-is-plain-pointer-requires :
+    (t : ℕ) → declared-type-lts.Need-is-plain-pointer-requires (
+      is-plain-reads.Asked,
+      is-plain-reads.Learnt,
+      moved-reads.Asked,
+      moved-reads.Learnt,
+      name-at-reads.Asked,
+      name-at-reads.Learnt,
+      is-plain-pointer-reads.Asked,
+      is-plain-pointer-reads.Learnt,
+      pointer-type-reads.Asked,
+      pointer-type-reads.Learnt,
+      empty-reads.Asked,
+      empty-reads.Learnt,
+      declarator-below t,
+      declarator.Post,
+      apply-reads.Asked,
+      apply-reads.Learnt,
+    ) (declared-type-at t) declared-type.Post
+declared-type-is-plain-pointer-requires t c κs = search needs
+
+pub declared-type-pointer-type-requires : (t : ℕ) → declared-type-lts.Need-pointer-type-requires (
   is-plain-reads.Asked,
   is-plain-reads.Learnt,
   moved-reads.Asked,
   moved-reads.Learnt,
   name-at-reads.Asked,
   name-at-reads.Learnt,
+  is-plain-pointer-reads.Asked,
+  is-plain-pointer-reads.Learnt,
+  pointer-type-reads.Asked,
+  pointer-type-reads.Learnt,
   empty-reads.Asked,
   empty-reads.Learnt,
   declarator-below t,
@@ -209,103 +256,7 @@ pub declared-type-empty-requires : (t : ℕ) → declared-type-lts.Need-empty-re
   apply-reads.Asked,
   apply-reads.Learnt,
 ) (declared-type-at t) declared-type.Post
-declared-type-empty-requires t c κs = search needs
-
-pub declared-type-declarator-requires : (t : ℕ) → declared-type-lts.Need-declarator-requires (
-  is-plain-reads.Asked,
-  is-plain-reads.Learnt,
-  moved-reads.Asked,
-  moved-reads.Learnt,
-  name-at-reads.Asked,
-  name-at-reads.Learnt,
-  empty-reads.Asked,
-  empty-reads.Learnt,
-  declarator-below t,
-  declarator.Post,
-  apply-reads.Asked,
-  apply-reads.Learnt,
-) (declared-type-at t) declared-type.Post
-declared-type-declarator-requires t c κs = (omega (arith, c .before .before .before .before .before .before .before .before .before .before .pre .0), (c .before .before .before .before .before .before .before .before .before .before .pre .1 .0, (c .before .before .before .before .before .before .before .before .before .before .pre .1 .1, starts-empty _ (c .empty .ensures))))
-
-pub declared-type-enum-known-answer : (t : ℕ) → declared-type-lts.Need-enum-known-answer (
-  is-plain-reads.Asked,
-  is-plain-reads.Learnt,
-  moved-reads.Asked,
-  moved-reads.Learnt,
-  name-at-reads.Asked,
-  name-at-reads.Learnt,
-  empty-reads.Asked,
-  empty-reads.Learnt,
-  declarator-below t,
-  declarator.Post,
-  apply-reads.Asked,
-  apply-reads.Learnt,
-) (declared-type-at t) declared-type.Post
-declared-type-enum-known-answer t c = search needs
-
-pub declared-type-apply-requires : (t : ℕ) → declared-type-lts.Need-apply-requires (
-  is-plain-reads.Asked,
-  is-plain-reads.Learnt,
-  moved-reads.Asked,
-  moved-reads.Learnt,
-  name-at-reads.Asked,
-  name-at-reads.Learnt,
-  empty-reads.Asked,
-  empty-reads.Learnt,
-  declarator-below t,
-  declarator.Post,
-  apply-reads.Asked,
-  apply-reads.Learnt,
-) (declared-type-at t) declared-type.Post
-declared-type-apply-requires t c κs = (declared-held (c .before .before .before .before .before .before .before .before .before .before .before .before .declarator .ensures) (c .before .before .before .before .answer .given .1) (c .before .before .before .before .before .before .before .before .before .before .before .before .before .before .before .before .before .before .before .before .before .before .before .pre .1 .0), declared-few (c .before .before .before .before .before .before .before .before .before .before .before .before .declarator .ensures) (c .before .before .before .before .answer .given .1))
-
-pub declared-type-enum-known-r : (t : ℕ) → declared-type-lts.Need-enum-known-r (
-  is-plain-reads.Asked,
-  is-plain-reads.Learnt,
-  moved-reads.Asked,
-  moved-reads.Learnt,
-  name-at-reads.Asked,
-  name-at-reads.Learnt,
-  empty-reads.Asked,
-  empty-reads.Learnt,
-  declarator-below t,
-  declarator.Post,
-  apply-reads.Asked,
-  apply-reads.Learnt,
-) (declared-type-at t) declared-type.Post
-declared-type-enum-known-r t c = search needs
-
-pub declared-type-enum-known-r-2 : (t : ℕ) → declared-type-lts.Need-enum-known-r-2 (
-  is-plain-reads.Asked,
-  is-plain-reads.Learnt,
-  moved-reads.Asked,
-  moved-reads.Learnt,
-  name-at-reads.Asked,
-  name-at-reads.Learnt,
-  empty-reads.Asked,
-  empty-reads.Learnt,
-  declarator-below t,
-  declarator.Post,
-  apply-reads.Asked,
-  apply-reads.Learnt,
-) (declared-type-at t) declared-type.Post
-declared-type-enum-known-r-2 t c = search needs
-
-pub declared-type-enum-known-answer-2 : (t : ℕ) → declared-type-lts.Need-enum-known-answer-2 (
-  is-plain-reads.Asked,
-  is-plain-reads.Learnt,
-  moved-reads.Asked,
-  moved-reads.Learnt,
-  name-at-reads.Asked,
-  name-at-reads.Learnt,
-  empty-reads.Asked,
-  empty-reads.Learnt,
-  declarator-below t,
-  declarator.Post,
-  apply-reads.Asked,
-  apply-reads.Learnt,
-) (declared-type-at t) declared-type.Post
-declared-type-enum-known-answer-2 t c = search needs
+declared-type-pointer-type-requires t c κs = (c .before .before .before .before .before .before .before .before .before .before .before .pre .1 .0, (c .before .before .before .before .before .before .before .before .before .before .before .pre .1 .1, is-so _ (c .before .before .before .before .is-plain-pointer .ensures) (c .before .before .before .if2 .taken)))
 
 pub declared-type-same-length : (t : ℕ) → declared-type-lts.Need-same-length (
   is-plain-reads.Asked,
@@ -314,6 +265,10 @@ pub declared-type-same-length : (t : ℕ) → declared-type-lts.Need-same-length
   moved-reads.Learnt,
   name-at-reads.Asked,
   name-at-reads.Learnt,
+  is-plain-pointer-reads.Asked,
+  is-plain-pointer-reads.Learnt,
+  pointer-type-reads.Asked,
+  pointer-type-reads.Learnt,
   empty-reads.Asked,
   empty-reads.Learnt,
   declarator-below t,
@@ -330,6 +285,10 @@ pub declared-type-same-length-2 : (t : ℕ) → declared-type-lts.Need-same-leng
   moved-reads.Learnt,
   name-at-reads.Asked,
   name-at-reads.Learnt,
+  is-plain-pointer-reads.Asked,
+  is-plain-pointer-reads.Learnt,
+  pointer-type-reads.Asked,
+  pointer-type-reads.Learnt,
   empty-reads.Asked,
   empty-reads.Learnt,
   declarator-below t,
@@ -346,6 +305,10 @@ pub declared-type-same-length-3 : (t : ℕ) → declared-type-lts.Need-same-leng
   moved-reads.Learnt,
   name-at-reads.Asked,
   name-at-reads.Learnt,
+  is-plain-pointer-reads.Asked,
+  is-plain-pointer-reads.Learnt,
+  pointer-type-reads.Asked,
+  pointer-type-reads.Learnt,
   empty-reads.Asked,
   empty-reads.Learnt,
   declarator-below t,
@@ -362,6 +325,10 @@ pub declared-type-returns-2 : (t : ℕ) → declared-type-lts.Need-returns-2 (
   moved-reads.Learnt,
   name-at-reads.Asked,
   name-at-reads.Learnt,
+  is-plain-pointer-reads.Asked,
+  is-plain-pointer-reads.Learnt,
+  pointer-type-reads.Asked,
+  pointer-type-reads.Learnt,
   empty-reads.Asked,
   empty-reads.Learnt,
   declarator-below t,
@@ -369,7 +336,147 @@ pub declared-type-returns-2 : (t : ℕ) → declared-type-lts.Need-returns-2 (
   apply-reads.Asked,
   apply-reads.Learnt,
 ) (declared-type-at t) declared-type.Post
-declared-type-returns-2 t c = typed-done _ _ (c .before .before .before .before .before .before .before .before .before .before .before .before .before .before .before .before .before .before .before .before .before .before .empty .ensures) (c .before .before .before .before .before .before .before .before .before .before .before .before .before .before .before .before .before .before .before .before .before .declarator .ensures) (c .before .before .before .before .before .before .before .before .before .before .before .before .before .answer .given .1) (c .before .before .before .before .before .before .before .before .apply .ensures) (c .before .r .given .1)
+declared-type-returns-2 t c = c .before .before .before .before .before .pointer-type .ensures .of _ _ (has-levels _ (c .before .before .before .before .before .before .before .before .before .before .is-plain-pointer .ensures) (c .before .before .before .before .before .before .before .before .before .if2 .taken))
+
+pub declared-type-empty-requires : (t : ℕ) → declared-type-lts.Need-empty-requires (
+  is-plain-reads.Asked,
+  is-plain-reads.Learnt,
+  moved-reads.Asked,
+  moved-reads.Learnt,
+  name-at-reads.Asked,
+  name-at-reads.Learnt,
+  is-plain-pointer-reads.Asked,
+  is-plain-pointer-reads.Learnt,
+  pointer-type-reads.Asked,
+  pointer-type-reads.Learnt,
+  empty-reads.Asked,
+  empty-reads.Learnt,
+  declarator-below t,
+  declarator.Post,
+  apply-reads.Asked,
+  apply-reads.Learnt,
+) (declared-type-at t) declared-type.Post
+declared-type-empty-requires t c κs = search needs
+
+pub declared-type-declarator-requires : (t : ℕ) → declared-type-lts.Need-declarator-requires (
+  is-plain-reads.Asked,
+  is-plain-reads.Learnt,
+  moved-reads.Asked,
+  moved-reads.Learnt,
+  name-at-reads.Asked,
+  name-at-reads.Learnt,
+  is-plain-pointer-reads.Asked,
+  is-plain-pointer-reads.Learnt,
+  pointer-type-reads.Asked,
+  pointer-type-reads.Learnt,
+  empty-reads.Asked,
+  empty-reads.Learnt,
+  declarator-below t,
+  declarator.Post,
+  apply-reads.Asked,
+  apply-reads.Learnt,
+) (declared-type-at t) declared-type.Post
+declared-type-declarator-requires t c κs = (omega (arith, c .before .before .before .before .before .before .before .before .before .before .before .before .pre .0), (c .before .before .before .before .before .before .before .before .before .before .before .before .pre .1 .0, (c .before .before .before .before .before .before .before .before .before .before .before .before .pre .1 .1, starts-empty _ (c .empty .ensures))))
+
+pub declared-type-enum-known-answer : (t : ℕ) → declared-type-lts.Need-enum-known-answer (
+  is-plain-reads.Asked,
+  is-plain-reads.Learnt,
+  moved-reads.Asked,
+  moved-reads.Learnt,
+  name-at-reads.Asked,
+  name-at-reads.Learnt,
+  is-plain-pointer-reads.Asked,
+  is-plain-pointer-reads.Learnt,
+  pointer-type-reads.Asked,
+  pointer-type-reads.Learnt,
+  empty-reads.Asked,
+  empty-reads.Learnt,
+  declarator-below t,
+  declarator.Post,
+  apply-reads.Asked,
+  apply-reads.Learnt,
+) (declared-type-at t) declared-type.Post
+declared-type-enum-known-answer t c = search needs
+
+pub declared-type-apply-requires : (t : ℕ) → declared-type-lts.Need-apply-requires (
+  is-plain-reads.Asked,
+  is-plain-reads.Learnt,
+  moved-reads.Asked,
+  moved-reads.Learnt,
+  name-at-reads.Asked,
+  name-at-reads.Learnt,
+  is-plain-pointer-reads.Asked,
+  is-plain-pointer-reads.Learnt,
+  pointer-type-reads.Asked,
+  pointer-type-reads.Learnt,
+  empty-reads.Asked,
+  empty-reads.Learnt,
+  declarator-below t,
+  declarator.Post,
+  apply-reads.Asked,
+  apply-reads.Learnt,
+) (declared-type-at t) declared-type.Post
+declared-type-apply-requires t c κs = (declared-held (c .before .before .before .before .before .before .before .before .before .before .before .before .declarator .ensures) (c .before .before .before .before .answer .given .1) (c .before .before .before .before .before .before .before .before .before .before .before .before .before .before .before .before .before .before .before .before .before .before .before .before .before .pre .1 .0), declared-few (c .before .before .before .before .before .before .before .before .before .before .before .before .declarator .ensures) (c .before .before .before .before .answer .given .1))
+
+pub declared-type-enum-known-r : (t : ℕ) → declared-type-lts.Need-enum-known-r (
+  is-plain-reads.Asked,
+  is-plain-reads.Learnt,
+  moved-reads.Asked,
+  moved-reads.Learnt,
+  name-at-reads.Asked,
+  name-at-reads.Learnt,
+  is-plain-pointer-reads.Asked,
+  is-plain-pointer-reads.Learnt,
+  pointer-type-reads.Asked,
+  pointer-type-reads.Learnt,
+  empty-reads.Asked,
+  empty-reads.Learnt,
+  declarator-below t,
+  declarator.Post,
+  apply-reads.Asked,
+  apply-reads.Learnt,
+) (declared-type-at t) declared-type.Post
+declared-type-enum-known-r t c = search needs
+
+pub declared-type-enum-known-r-2 : (t : ℕ) → declared-type-lts.Need-enum-known-r-2 (
+  is-plain-reads.Asked,
+  is-plain-reads.Learnt,
+  moved-reads.Asked,
+  moved-reads.Learnt,
+  name-at-reads.Asked,
+  name-at-reads.Learnt,
+  is-plain-pointer-reads.Asked,
+  is-plain-pointer-reads.Learnt,
+  pointer-type-reads.Asked,
+  pointer-type-reads.Learnt,
+  empty-reads.Asked,
+  empty-reads.Learnt,
+  declarator-below t,
+  declarator.Post,
+  apply-reads.Asked,
+  apply-reads.Learnt,
+) (declared-type-at t) declared-type.Post
+declared-type-enum-known-r-2 t c = search needs
+
+pub declared-type-enum-known-answer-2 : (t : ℕ) → declared-type-lts.Need-enum-known-answer-2 (
+  is-plain-reads.Asked,
+  is-plain-reads.Learnt,
+  moved-reads.Asked,
+  moved-reads.Learnt,
+  name-at-reads.Asked,
+  name-at-reads.Learnt,
+  is-plain-pointer-reads.Asked,
+  is-plain-pointer-reads.Learnt,
+  pointer-type-reads.Asked,
+  pointer-type-reads.Learnt,
+  empty-reads.Asked,
+  empty-reads.Learnt,
+  declarator-below t,
+  declarator.Post,
+  apply-reads.Asked,
+  apply-reads.Learnt,
+) (declared-type-at t) declared-type.Post
+declared-type-enum-known-answer-2 t c = search needs
 
 pub declared-type-same-length-4 : (t : ℕ) → declared-type-lts.Need-same-length-4 (
   is-plain-reads.Asked,
@@ -378,6 +485,10 @@ pub declared-type-same-length-4 : (t : ℕ) → declared-type-lts.Need-same-leng
   moved-reads.Learnt,
   name-at-reads.Asked,
   name-at-reads.Learnt,
+  is-plain-pointer-reads.Asked,
+  is-plain-pointer-reads.Learnt,
+  pointer-type-reads.Asked,
+  pointer-type-reads.Learnt,
   empty-reads.Asked,
   empty-reads.Learnt,
   declarator-below t,
@@ -394,6 +505,10 @@ pub declared-type-same-length-5 : (t : ℕ) → declared-type-lts.Need-same-leng
   moved-reads.Learnt,
   name-at-reads.Asked,
   name-at-reads.Learnt,
+  is-plain-pointer-reads.Asked,
+  is-plain-pointer-reads.Learnt,
+  pointer-type-reads.Asked,
+  pointer-type-reads.Learnt,
   empty-reads.Asked,
   empty-reads.Learnt,
   declarator-below t,
@@ -410,6 +525,10 @@ pub declared-type-same-length-6 : (t : ℕ) → declared-type-lts.Need-same-leng
   moved-reads.Learnt,
   name-at-reads.Asked,
   name-at-reads.Learnt,
+  is-plain-pointer-reads.Asked,
+  is-plain-pointer-reads.Learnt,
+  pointer-type-reads.Asked,
+  pointer-type-reads.Learnt,
   empty-reads.Asked,
   empty-reads.Learnt,
   declarator-below t,
@@ -426,6 +545,10 @@ pub declared-type-returns-3 : (t : ℕ) → declared-type-lts.Need-returns-3 (
   moved-reads.Learnt,
   name-at-reads.Asked,
   name-at-reads.Learnt,
+  is-plain-pointer-reads.Asked,
+  is-plain-pointer-reads.Learnt,
+  pointer-type-reads.Asked,
+  pointer-type-reads.Learnt,
   empty-reads.Asked,
   empty-reads.Learnt,
   declarator-below t,
@@ -433,7 +556,7 @@ pub declared-type-returns-3 : (t : ℕ) → declared-type-lts.Need-returns-3 (
   apply-reads.Asked,
   apply-reads.Learnt,
 ) (declared-type-at t) declared-type.Post
-declared-type-returns-3 t c = typed-refused _ _ (c .before .before .before .before .before .before .before .before .before .before .before .before .before .before .before .before .before .before .before .before .before .before .empty .ensures) (c .before .before .before .before .before .before .before .before .before .before .before .before .before .before .before .before .before .before .before .before .before .declarator .ensures) (c .before .before .before .before .before .before .before .before .before .before .before .before .before .answer .given .1) (c .before .before .before .before .before .before .before .before .apply .ensures) (c .before .r2 .given .1)
+declared-type-returns-3 t c = typed-done _ _ (c .before .before .before .before .before .before .before .before .before .before .before .before .before .before .before .before .before .before .before .before .before .before .empty .ensures) (c .before .before .before .before .before .before .before .before .before .before .before .before .before .before .before .before .before .before .before .before .before .declarator .ensures) (c .before .before .before .before .before .before .before .before .before .before .before .before .before .answer .given .1) (c .before .before .before .before .before .before .before .before .apply .ensures) (c .before .r .given .1)
 
 pub declared-type-same-length-7 : (t : ℕ) → declared-type-lts.Need-same-length-7 (
   is-plain-reads.Asked,
@@ -442,6 +565,10 @@ pub declared-type-same-length-7 : (t : ℕ) → declared-type-lts.Need-same-leng
   moved-reads.Learnt,
   name-at-reads.Asked,
   name-at-reads.Learnt,
+  is-plain-pointer-reads.Asked,
+  is-plain-pointer-reads.Learnt,
+  pointer-type-reads.Asked,
+  pointer-type-reads.Learnt,
   empty-reads.Asked,
   empty-reads.Learnt,
   declarator-below t,
@@ -458,6 +585,10 @@ pub declared-type-same-length-8 : (t : ℕ) → declared-type-lts.Need-same-leng
   moved-reads.Learnt,
   name-at-reads.Asked,
   name-at-reads.Learnt,
+  is-plain-pointer-reads.Asked,
+  is-plain-pointer-reads.Learnt,
+  pointer-type-reads.Asked,
+  pointer-type-reads.Learnt,
   empty-reads.Asked,
   empty-reads.Learnt,
   declarator-below t,
@@ -474,6 +605,10 @@ pub declared-type-same-length-9 : (t : ℕ) → declared-type-lts.Need-same-leng
   moved-reads.Learnt,
   name-at-reads.Asked,
   name-at-reads.Learnt,
+  is-plain-pointer-reads.Asked,
+  is-plain-pointer-reads.Learnt,
+  pointer-type-reads.Asked,
+  pointer-type-reads.Learnt,
   empty-reads.Asked,
   empty-reads.Learnt,
   declarator-below t,
@@ -490,6 +625,10 @@ pub declared-type-returns-4 : (t : ℕ) → declared-type-lts.Need-returns-4 (
   moved-reads.Learnt,
   name-at-reads.Asked,
   name-at-reads.Learnt,
+  is-plain-pointer-reads.Asked,
+  is-plain-pointer-reads.Learnt,
+  pointer-type-reads.Asked,
+  pointer-type-reads.Learnt,
   empty-reads.Asked,
   empty-reads.Learnt,
   declarator-below t,
@@ -497,4 +636,84 @@ pub declared-type-returns-4 : (t : ℕ) → declared-type-lts.Need-returns-4 (
   apply-reads.Asked,
   apply-reads.Learnt,
 ) (declared-type-at t) declared-type.Post
-declared-type-returns-4 t c = typed-stop _ _ (c .before .before .before .before .before .before .before .before .before .before .empty .ensures) (c .before .before .before .before .before .before .before .before .before .declarator .ensures) (c .before .answer2 .given .1)
+declared-type-returns-4 t c = typed-refused _ _ (c .before .before .before .before .before .before .before .before .before .before .before .before .before .before .before .before .before .before .before .before .before .before .empty .ensures) (c .before .before .before .before .before .before .before .before .before .before .before .before .before .before .before .before .before .before .before .before .before .declarator .ensures) (c .before .before .before .before .before .before .before .before .before .before .before .before .before .answer .given .1) (c .before .before .before .before .before .before .before .before .apply .ensures) (c .before .r2 .given .1)
+
+pub declared-type-same-length-10 : (t : ℕ) → declared-type-lts.Need-same-length-10 (
+  is-plain-reads.Asked,
+  is-plain-reads.Learnt,
+  moved-reads.Asked,
+  moved-reads.Learnt,
+  name-at-reads.Asked,
+  name-at-reads.Learnt,
+  is-plain-pointer-reads.Asked,
+  is-plain-pointer-reads.Learnt,
+  pointer-type-reads.Asked,
+  pointer-type-reads.Learnt,
+  empty-reads.Asked,
+  empty-reads.Learnt,
+  declarator-below t,
+  declarator.Post,
+  apply-reads.Asked,
+  apply-reads.Learnt,
+) (declared-type-at t) declared-type.Post
+declared-type-same-length-10 t c = search needs
+
+pub declared-type-same-length-11 : (t : ℕ) → declared-type-lts.Need-same-length-11 (
+  is-plain-reads.Asked,
+  is-plain-reads.Learnt,
+  moved-reads.Asked,
+  moved-reads.Learnt,
+  name-at-reads.Asked,
+  name-at-reads.Learnt,
+  is-plain-pointer-reads.Asked,
+  is-plain-pointer-reads.Learnt,
+  pointer-type-reads.Asked,
+  pointer-type-reads.Learnt,
+  empty-reads.Asked,
+  empty-reads.Learnt,
+  declarator-below t,
+  declarator.Post,
+  apply-reads.Asked,
+  apply-reads.Learnt,
+) (declared-type-at t) declared-type.Post
+declared-type-same-length-11 t c = search needs
+
+pub declared-type-same-length-12 : (t : ℕ) → declared-type-lts.Need-same-length-12 (
+  is-plain-reads.Asked,
+  is-plain-reads.Learnt,
+  moved-reads.Asked,
+  moved-reads.Learnt,
+  name-at-reads.Asked,
+  name-at-reads.Learnt,
+  is-plain-pointer-reads.Asked,
+  is-plain-pointer-reads.Learnt,
+  pointer-type-reads.Asked,
+  pointer-type-reads.Learnt,
+  empty-reads.Asked,
+  empty-reads.Learnt,
+  declarator-below t,
+  declarator.Post,
+  apply-reads.Asked,
+  apply-reads.Learnt,
+) (declared-type-at t) declared-type.Post
+declared-type-same-length-12 t c = search needs
+
+pub declared-type-returns-5 : (t : ℕ) → declared-type-lts.Need-returns-5 (
+  is-plain-reads.Asked,
+  is-plain-reads.Learnt,
+  moved-reads.Asked,
+  moved-reads.Learnt,
+  name-at-reads.Asked,
+  name-at-reads.Learnt,
+  is-plain-pointer-reads.Asked,
+  is-plain-pointer-reads.Learnt,
+  pointer-type-reads.Asked,
+  pointer-type-reads.Learnt,
+  empty-reads.Asked,
+  empty-reads.Learnt,
+  declarator-below t,
+  declarator.Post,
+  apply-reads.Asked,
+  apply-reads.Learnt,
+) (declared-type-at t) declared-type.Post
+declared-type-returns-5 t c = typed-stop _ _ (c .before .before .before .before .before .before .before .before .before .before .empty .ensures) (c .before .before .before .before .before .before .before .before .before .declarator .ensures) (c .before .answer2 .given .1)
