@@ -9,7 +9,7 @@ use lib.Dec.{leb, ltb}
 use lib.IntN.{ℤ}
 use lib.ListN.{length, take, drop, replicate, length-append, length-replicate, take-append-drop}
 use lib.Seq.{take-at}
-use borrow.Author.Tests.{le-leb, lt-leb, leb-true, le-ltb}
+use borrow.Author.Tests.{le-leb, leb-true, le-ltb}
 use Rattle.definition.specs.Answer.{Answer, got, refused, _>>=_}
 use Rattle.definition.specs.Text.{Bytes}
 use Rattle.definition.specs.Place.{Place, placeOf}
@@ -31,7 +31,7 @@ use Rattle.tokens.specs.declared.Lexing.{Lexing}
 use Rattle.tokens.specs.declared.Lexing.the-variants.{Done as Lexing·Done, Refused as Lexing·Refused}
 use Rattle.clearing.specs.Slices.{lent}
 use Rattle.entry.proofs.Front.{fresh-front, front-filled}
-use Rattle.entry.specs.Answers.{lexed, firstCursor, countsOf, Read, readTokens, Short, Cleared, Enough, Left, Leaves, rejectedAt, out, shown, readLong, Tells, answered, Answers}
+use Rattle.entry.specs.Answers.{lexed, firstCursor, countsOf, Read, readTokens, Short, Cleared, Enough, Left, Leaves, asLong, Concludes, rejectedAt, out, shown, readLong, Tells, answered, Answers}
 use Rattle.entry.specs.Answers as answers
 use Rattle.entry.specs.declared.Counts.{Counts}
 use Rattle.entry.specs.declared.Reading.{Reading}
@@ -165,21 +165,20 @@ module _ (l : Lent) (w d : List ℕ) (v : List ℤ) (e : lent w d v ≡ zeroed l
   front-left {a} {r} {ws} {ds} {vs} (answers.same n p q h s) = answers.same n p q h (front-same ws ds vs s ∙ e)
   front-left (answers.stop n p q h) = answers.stop n p q h
 
-  and-no : (a b : Bool) → b ≡ false → (a && b) ≡ false
-  and-no true b q = q
-  and-no false b q = refl
-
-  no-words : length w < wordsLength → longEnough l ≡ false
+  -- the test of the lengths is that of the definition
+  as-long : asLong (length w) (length d) (length v) ≡ longEnough l
   unfolding longEnough
-  no-words p = rw (lt-leb wordsLength (length (l .words)) (omega (arith, w-long)))
+  as-long = rw (w-long, d-long, v-long)
 
-  no-wides : length d < widesLength → longEnough l ≡ false
-  unfolding longEnough
-  no-wides p = and-no (leb wordsLength (length (l .words))) _ (rw (lt-leb widesLength (length (l .wides)) (omega (arith, d-long))))
+and-both : (a b : Bool) → (a && b) ≡ true → (a ≡ true) × (b ≡ true)
+and-both true b e = (refl, e)
+and-both false b e = let y : _≡_ {A = ℕ} 0 1 = cc in absurd (omega arith)
 
-  no-signeds : length v < signedsLength → longEnough l ≡ false
-  unfolding longEnough
-  no-signeds p = and-no (leb wordsLength (length (l .words))) _ (and-no (leb widesLength (length (l .wides))) _ (lt-leb signedsLength (length (l .signeds)) (omega (arith, v-long))))
+pub enough : (w d : List ℕ) (v : List ℤ) → asLong (length w) (length d) (length v) ≡ true → Enough w d v
+enough w d v e =
+    let x = and-both (leb wordsLength (length w)) (leb widesLength (length d) && leb signedsLength (length v)) e in
+    let y = and-both (leb widesLength (length d)) (leb signedsLength (length v)) (x .1) in
+    record { words = leb-true wordsLength (length w) (x .0); wides = leb-true widesLength (length d) (y .0); signeds = leb-true signedsLength (length v) (y .1) }
 
 pub front-fresh : (w d : List ℕ) (v : List ℤ) → Cleared w d v → Enough w d v → Encodes newTable firstCursor (take wordsLength w) (take widesLength d) (take signedsLength v)
 front-fresh w d v c h = fresh-front (c .of) w d v (c .is) (long (c .of) w d v (c .is) h)
@@ -206,21 +205,15 @@ module _ (m : Model) (entry : meant.Entry) (text : Bytes) (w d : List ℕ) (v : 
   tells-short : (r : Outcome) → ((l : Lent) → lent w d v ≡ zeroed l → longEnough l ≡ false) → r ≡ rejectedAt text 1 0 → Tells m entry text w d v r w d v
   tells-short r f q = record { run = λ l e. refused-out l text 1 0 r w d v (readLong l m entry text) (short l (f l e)) q e }
 
-  pub short-words : (r : Outcome) → length w < wordsLength → r ≡ rejectedAt text 1 0 → Tells m entry text w d v r w d v
-  short-words r p q = tells-short r (λ l e. no-words l w d v e p) q
-
-  pub short-wides : (r : Outcome) → length d < widesLength → r ≡ rejectedAt text 1 0 → Tells m entry text w d v r w d v
-  short-wides r p q = tells-short r (λ l e. no-wides l w d v e p) q
-
-  pub short-signeds : (r : Outcome) → length v < signedsLength → r ≡ rejectedAt text 1 0 → Tells m entry text w d v r w d v
-  short-signeds r p q = tells-short r (λ l e. no-signeds l w d v e p) q
+  pub tells-too-short : (r : Outcome) → asLong (length w) (length d) (length v) ≡ false → r ≡ rejectedAt text 1 0 → Tells m entry text w d v r w d v
+  tells-too-short r p q = tells-short r (λ l e. sym (as-long l w d v e) ∙ p) q
 
   module _ (h : Enough w d v) (r : Reading) (w′ d′ : List ℕ) (v′ : List ℤ) (f : Leaves (meant.readWith m entry text) w d v r w′ d′ v′) where
     read-yes : (l : Lent) → lent w d v ≡ zeroed l → readLong l m entry text ≡ meant.readWith m entry text
     unfolding readLong
     read-yes l e = yes (longEnough l) (meant.readWith m entry text) (refused 1 0) (long-yes l w d v e h)
 
-    pub tells-done : (c : Counts) → r ≡ Done c → Tells m entry text w d v (Accepted c) w′ d′ v′
+    tells-done : (c : Counts) → r ≡ Done c → Tells m entry text w d v (Accepted c) w′ d′ v′
     unfolding shown meant.told
     tells-done c q = record { run = λ l e. go l (read-yes l e) (f .run l e) }
       where
@@ -230,7 +223,7 @@ module _ (m : Model) (entry : meant.Entry) (text : Bytes) (w d : List ℕ) (v : 
         go l y (answers.stop n p s e) = let z : _≡_ {A = ℕ} 0 1 = cc in absurd (omega arith)
 
     -- nothing was written: the slices are zero still
-    pub tells-untouched : (n at : ℕ) (o : Outcome) → r ≡ Untouched n at → o ≡ rejectedAt text n at → Tells m entry text w d v o w′ d′ v′
+    tells-untouched : (n at : ℕ) (o : Outcome) → r ≡ Untouched n at → o ≡ rejectedAt text n at → Tells m entry text w d v o w′ d′ v′
     tells-untouched n at o q g = record { run = λ l e. go l e (f .run l e) }
       where
         go : (l : Lent) → lent w d v ≡ zeroed l → Left l (meant.readWith m entry text) r w′ d′ v′ → out o (lent w′ d′ v′) ≡ shown l (meant.told text (readLong l m entry text))
@@ -238,7 +231,7 @@ module _ (m : Model) (entry : meant.Entry) (text : Bytes) (w d : List ℕ) (v : 
         go l e (answers.same n′ p′ s t z) = let y : n′ ≡ n = cc in let u : p′ ≡ at = cc in refused-out l text n at o w′ d′ v′ (readLong l m entry text) (read-yes l e ∙ (s ∙ rw (y, u))) g z
         go l e (answers.stop n′ p′ s t) = let y : _≡_ {A = ℕ} 0 1 = cc in absurd (omega arith)
 
-    pub tells-refused : (n at : ℕ) (o : Outcome) (w″ d″ : List ℕ) (v″ : List ℤ) → r ≡ Refused n at → length w′ ≡ length w → length d′ ≡ length d → length v′ ≡ length v
+    tells-refused : (n at : ℕ) (o : Outcome) (w″ d″ : List ℕ) (v″ : List ℤ) → r ≡ Refused n at → length w′ ≡ length w → length d′ ≡ length d → length v′ ≡ length v
         → lent w″ d″ v″ ≡ zeroed (lent w′ d′ v′) → o ≡ rejectedAt text n at → Tells m entry text w d v o w″ d″ v″
     tells-refused n at o w″ d″ v″ q i j k z g = record { run = λ l e. refused-out l text n at o w″ d″ v″ (readLong l m entry text) (read-yes l e ∙ says l (f .run l e)) g (z ∙ zeroed-again l w d v e w′ d′ v′ i j k) }
       where
@@ -246,6 +239,13 @@ module _ (m : Model) (entry : meant.Entry) (text : Bytes) (w d : List ℕ) (v : 
         says l (answers.done x p s e) = let y : _≡_ {A = ℕ} 0 1 = cc in absurd (omega arith)
         says l (answers.same n′ p′ s e t) = let y : _≡_ {A = ℕ} 0 1 = cc in absurd (omega arith)
         says l (answers.stop n′ p′ s e) = let y : n′ ≡ n = cc in let u : p′ ≡ at = cc in s ∙ rw (y, u)
+
+    pub tells-concluded : (o : Outcome) (w″ d″ : List ℕ) (v″ : List ℤ) → length w′ ≡ length w → length d′ ≡ length d → length v′ ≡ length v
+        → Concludes text r w′ d′ v′ o w″ d″ v″ → Tells m entry text w d v o w″ d″ v″
+    tells-concluded o w″ d″ v″ i j k (answers.done c q g z) =
+        record { run = λ l e. ap (λ (x : Outcome). out x (lent w″ d″ v″)) g ∙ (ap (λ (x : Lent). out (Accepted c) x) z ∙ tells-done c q .run l e) }
+    tells-concluded o w″ d″ v″ i j k (answers.same n p q g z) = record { run = λ l e. ap (λ (x : Lent). out o x) z ∙ tells-untouched n p o q g .run l e }
+    tells-concluded o w″ d″ v″ i j k (answers.stop n p q g z) = tells-refused n p o w″ d″ v″ q i j k z g
 
 module _ (model : ℕ) (entry : meant.Entry) (text : Bytes) (r : Outcome) (w d : List ℕ) (v : List ℤ) where
   module _ (l : Lent) where

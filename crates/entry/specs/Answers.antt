@@ -1,8 +1,9 @@
 -- What the entries answer, in the definition's terms.
 use mathlib.Core.Path.{_≡_}
-use mathlib.Core.Bool.{Bool, true, false}
+use mathlib.Core.Bool.{Bool, true, false, _&&_}
 use mathlib.Core.List.{List}
 use Prim.Native.Nat.{ℕ, _≤_}
+use lib.Dec.{leb}
 use lib.IntN.{ℤ}
 use lib.ListN.{length}
 use Rattle.definition.specs.Answer.{Answer, got, refused, _>>=_}
@@ -107,6 +108,10 @@ pub record Enough (w d : List ℕ) (v : List ℤ) : Type 0 where
   pub wides : widesLength ≤ length d
   pub signeds : signedsLength ≤ length v
 
+-- the test of it, of lengths
+abbrev pub asLong : ℕ → ℕ → ℕ → Bool
+asLong words wides signeds = leb wordsLength words && (leb widesLength wides && leb signedsLength signeds)
+
 -- a table was read into their front, with zeros after it; zeros stay where no number was written
 pub data Left (l : Lent) (a : Answer meant.Accepted) (r : Reading) (w d : List ℕ) (v : List ℤ) : Type 0 where
   done : (x : meant.Accepted) → a ≡ got x → r ≡ Done (countsOf x) → lent w d v ≡ leftIn l (meant.accepted x) → Left l a r w d v
@@ -121,6 +126,12 @@ pub record Leaves (a : Answer meant.Accepted) (w d : List ℕ) (v : List ℤ) (r
 -- a refusal, with the line and the column of its offset
 abbrev pub rejectedAt : Bytes → ℕ → ℕ → Outcome
 rejectedAt text n at = Rejected n at (placeOf text at .line) (placeOf text at .column)
+
+-- what is told after a reading: a refusal in the midst of a table leaves zeros
+pub data Concludes (text : Bytes) (r : Reading) (w d : List ℕ) (v : List ℤ) (o : Outcome) (w′ d′ : List ℕ) (v′ : List ℤ) : Type 0 where
+  done : (c : Counts) → r ≡ Done c → o ≡ Accepted c → lent w′ d′ v′ ≡ lent w d v → Concludes text r w d v o w′ d′ v′
+  same : (n p : ℕ) → r ≡ Untouched n p → o ≡ rejectedAt text n p → lent w′ d′ v′ ≡ lent w d v → Concludes text r w d v o w′ d′ v′
+  stop : (n p : ℕ) → r ≡ Refused n p → o ≡ rejectedAt text n p → lent w′ d′ v′ ≡ zeroed (lent w d v) → Concludes text r w d v o w′ d′ v′
 
 -- what the caller is told, and what stands in the slices then
 pub data Out : Type 0 where

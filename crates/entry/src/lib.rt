@@ -26,7 +26,7 @@ ghost use Rattle.tokens.specs.Columns.{RoomIf, Zero};
 ghost use Rattle.clearing.specs.Slices.{lent};
 ghost use Rattle.definition.specs.Lent.{longEnough};
 ghost use Rattle.entry.specs.Walking.{Walkable};
-ghost use Rattle.entry.specs.Answers.{entryOf, lexed, firstCursor, countsFrom, Parses, Read, Reads, Short, ShortIf, Cleared, Enough, Leaves, Tells, rejectedAt, out, answered, Answers};
+ghost use Rattle.entry.specs.Answers.{entryOf, lexed, firstCursor, countsFrom, Parses, Read, Reads, Short, ShortIf, Cleared, Enough, Leaves, asLong, Concludes, rejectedAt, out, answered, Answers};
 
 // A lent slice must be as long.
 pub const WORDS: usize = 78848;
@@ -279,34 +279,18 @@ fn reject(text: &[u8], n: u32, offset: usize) -> Outcome
     Outcome::Rejected(n, offset, spot.line, spot.column)
 }
 
-// Of a model that is known, in slices that were cleared.
-fn read_with(
-    entry: Entry,
-    text: &[u8],
-    kinds: &mut [u32],
-    places: &mut [u32],
-    numbers: &mut [u64],
-    m: Model,
-    w: &mut [u32],
-    d: &mut [u64],
-    v: &mut [i64],
-) -> Outcome
-    requires { ⌜ RoomIf (now text) (now kinds) (now places) (now numbers) ⌝ }
-    requires { ⌜ Zero (now kinds) (now places) (now numbers) (now kinds) (now places) (now numbers) ⌝ }
-    requires { ⌜ Cleared (now w) (now d) (now v) ⌝ }
-    ensures { λ r. ⌜ Tells (model m) (entryOf entry) (now (text .entry)) (now (w .entry)) (now (d .entry)) (now (v .entry)) r (now (w .exit)) (now (d .exit)) (now (v .exit)) ⌝ }
+// As long as the limits ask.
+fn long_enough(words: usize, wides: usize, signeds: usize) -> bool
+    ensures { λ r. ⌜ r ≡ asLong words wides signeds ⌝ }
 {
-    if w.len() < WORDS {
-        return reject(text, BAD_CALL, 0);
-    }
-    if d.len() < WIDES {
-        return reject(text, BAD_CALL, 0);
-    }
-    if v.len() < SIGNEDS {
-        return reject(text, BAD_CALL, 0);
-    }
-    let r = read_front(entry, text, kinds, places, numbers, m, w, d, v);
-    match r {
+    (WORDS <= words) & ((WIDES <= wides) & (SIGNEDS <= signeds))
+}
+
+// What the caller is told. A refusal in the midst of a table clears the slices.
+fn conclude(text: &[u8], reading: Reading, w: &mut [u32], d: &mut [u64], v: &mut [i64]) -> Outcome
+    ensures { λ r. ⌜ Concludes (now (text .entry)) reading (now (w .entry)) (now (d .entry)) (now (v .entry)) r (now (w .exit)) (now (d .exit)) (now (v .exit)) ⌝ }
+{
+    match reading {
         Reading::Done(counts) => Outcome::Accepted(counts),
         Reading::Untouched(n, offset) => reject(text, n, offset),
         Reading::Refused(n, offset) => {
@@ -334,17 +318,23 @@ fn read_small(
     let mut numbers = [0u64; SMALL_TEXT];
     let found = Model::numbered(number);
     match found {
-        ModelFound::Found(m) => read_with(
-            entry,
-            text,
-            &mut kinds,
-            &mut places,
-            &mut numbers,
-            m,
-            w,
-            d,
-            v,
-        ),
+        ModelFound::Found(m) => {
+            if long_enough(w.len(), d.len(), v.len()) {
+                let r = read_front(
+                    entry,
+                    text,
+                    &mut kinds,
+                    &mut places,
+                    &mut numbers,
+                    m,
+                    w,
+                    d,
+                    v,
+                );
+                return conclude(text, r, w, d, v);
+            }
+            reject(text, BAD_CALL, 0)
+        }
         ModelFound::Unknown => reject(text, BAD_CALL, 0),
     }
 }
@@ -366,17 +356,23 @@ fn read_large(
     let mut numbers = [0u64; MAX_TEXT];
     let found = Model::numbered(number);
     match found {
-        ModelFound::Found(m) => read_with(
-            entry,
-            text,
-            &mut kinds,
-            &mut places,
-            &mut numbers,
-            m,
-            w,
-            d,
-            v,
-        ),
+        ModelFound::Found(m) => {
+            if long_enough(w.len(), d.len(), v.len()) {
+                let r = read_front(
+                    entry,
+                    text,
+                    &mut kinds,
+                    &mut places,
+                    &mut numbers,
+                    m,
+                    w,
+                    d,
+                    v,
+                );
+                return conclude(text, r, w, d, v);
+            }
+            reject(text, BAD_CALL, 0)
+        }
         ModelFound::Unknown => reject(text, BAD_CALL, 0),
     }
 }

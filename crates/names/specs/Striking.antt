@@ -21,7 +21,7 @@ column w start width (suc i) = column w start width i ++ getD w (start + width *
 
 -- a text whose tokens all stand below it is small
 abbrev pub smallText : ℕ
-smallText = 1024
+smallText = 256
 
 -- the place of the last token, 0 of none
 abbrev pub lastPlace : List ℕ → ℕ

@@ -27,7 +27,7 @@ ghost use Rattle.names.specs.Striking.{column, smallText, lastPlace, Pla
 pub const MAX_TEXT: usize = 32768;
 
 // Where the last token stands below it, so do all: the list of names is shorter, and less has to be cleared.
-const SMALL_TEXT: usize = 1024;
+const SMALL_TEXT: usize = 256;
 
 pub const NAMES_AT: usize = 46080;
 

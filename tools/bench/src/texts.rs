@@ -64,6 +64,8 @@ fn accepted() -> Vec<Text> {
         text("parameters", parameters(LONGEST)),
         text("nested", nested(LONGEST)),
         text("typedefs", typedefs(LONGEST)),
+        text("aliases", aliases(LONGEST)),
+        text("references", references(LONGEST)),
         text("prototypes", prototypes(LONGEST)),
         text("comments", comments(LONGEST)),
     ]
@@ -103,12 +105,14 @@ fn ended(end: &str, make: Maker) -> String {
 type Maker = fn(usize) -> String;
 
 /// Kinds of texts of any length, for growth.
-pub const GROWING: [(&str, Maker); 5] = [
+pub const GROWING: [(&str, Maker); 7] = [
     ("structs", structs),
     ("enumerators", enumerators),
     ("declarators", declarators),
     ("parameters", parameters),
     ("prototypes", prototypes),
+    ("aliases", aliases),
+    ("references", references),
 ];
 
 /// Many small structs; each adds one row.
@@ -201,6 +205,27 @@ fn typedefs(bytes: usize) -> String {
         )
     };
     filled(bytes, "", one, "")
+}
+
+/// Many type names, and uses of any of them: ours looks through the rows, the Rust has a map.
+fn aliases(bytes: usize) -> String {
+    let one = |i: usize| {
+        let (a, b, c) = (i / 3, i / 2, i);
+        format!(
+            "typedef int t{i:04};\nstruct u{i:04} {{ t{a:04} a, b; t{b:04} c, d; t{c:04} e; }};\n"
+        )
+    };
+    filled(bytes, "", one, "")
+}
+
+/// Enumerators that name others: ours looks through the values, the Rust has a map.
+fn references(bytes: usize) -> String {
+    filled(
+        bytes,
+        "enum e {\nR = 1,\nR0000,\n",
+        |i| format!("R{:04} = R{:04} + R,\n", i + 1, i / 2),
+        "};",
+    )
 }
 
 fn prototypes(bytes: usize) -> String {
