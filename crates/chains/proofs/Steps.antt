@@ -1,18 +1,18 @@
--- Laws of chains. Assumes nothing.
+-- Laws of the trees and of the walk. Assumes nothing.
 use mathlib.Core.Path.{_≡_, refl, sym, ap, _∙_}
 use mathlib.Core.Bool.{Bool, true, false}
-use mathlib.Core.List.{List, [], _∷_, _++_, map, append-nil}
-use Prim.Native.Nat.{ℕ, zero, suc, _+_, _-_, _*_, _%_, _≤_, _<_}
+use mathlib.Core.List.{List, _∷_}
+use Prim.Native.Nat.{ℕ, suc, _+_, _-_, _*_, _/_, _%_, _^_, _≤_, _<_}
 use native.Mathlib.Omega.{arith}
-use lib.ListN.{length, getD, set, take, drop, drop-of-length-le}
-use lib.Seq.{take-all}
-use native.Mathlib.Numerals.{add-one}
+use lib.Dec.{ltb}
+use lib.ListN.{length, getD}
 use Rattle.definition.specs.Text.{Bytes, byteAt}
 use Rattle.definition.specs.Scan.{from}
-use Rattle.scan.proofs.Branch.{yes!, nay! }
+use Rattle.scan.proofs.Branch.{lt+, lt-}
 use Rattle.scan.proofs.Going.{from-cons, from-end}
 use Rattle.chains.specs.Names.{isNameOf}
-use Rattle.chains.specs.Chain.{hashed, HeadCount, few, many, slot, link, bare, nameOn, Reach, here, there}
+use Rattle.chains.specs.declared.Spot.the-variants.{Known, Free}
+use Rattle.chains.specs.Chain.{hashed, HeadCount, few, many, slot, bitOf, branch, Reach, here, there, Keeps, Rising, Walked, met, none}
 
 hash-cons : (h b : ℕ) (bs : Bytes) → hashed h (b ∷ bs) ≡ hashed ((33 * h + b) % 4096) bs
 unfolding hashed
@@ -26,7 +26,7 @@ pub hash-end : (w : Bytes) (h i whole : ℕ) → length w ≤ i → whole ≡ ha
 unfolding hashed
 hash-end w h i whole p r = sym (r ∙ ap (hashed h) (from-end w i p))
 
--- the chain among many, and among few
+-- the head among many, and among few
 module _ (w : Bytes) (h n : ℕ) (is : h ≡ hashed 0 w) where
   pub slot-many : h < 4096 → n ≡ 4096 → (h ≡ slot w n) × (h < n)
   slot-many l e = (rw e (omega (arith, is, l)), omega arith)
@@ -35,83 +35,67 @@ module _ (w : Bytes) (h n : ℕ) (is : h ≡ hashed 0 w) where
   slot-few (many e) z = absurd (z e)
   slot-few (few e) z = (rw e (ap (λ (x : ℕ). x % 64) is), omega arith)
 
--- the walk: a token of the spelling, one that is not, and the end
-module _ (text w : Bytes) (ks ps ns : List ℕ) (rounds c i whole : ℕ) (is : c ≡ suc i) (enough : c ≤ rounds) (e : whole ≡ nameOn text w ks ps ns rounds c) where
-  round : whole ≡ nameOn text w ks ps ns (suc (rounds - 1)) (suc i)
-  round = let q : rounds ≡ suc (rounds - 1) = omega arith in e ∙ (ap (λ (n : ℕ). nameOn text w ks ps ns n c) q ∙ ap (nameOn text w ks ps ns (suc (rounds - 1))) is)
+-- a bit of a spelling
+bit-low : (w : Bytes) (d : ℕ) → bitOf w d < 2
+unfolding bitOf
+bit-low w d = by (ltb (length w) (d / 8 + 1)) (byteAt w (length w - (d / 8 + 1)) / 2 ^ (d % 8))
+  where
+    by : (t : Bool) (x : ℕ) → elim t as (λ z. ℕ) [ true ↦ 0 | false ↦ x % 2 ] < 2
+    by true x = omega arith
+    by false x = omega arith
 
-  pub on-found : isNameOf text w (getD ks i 0) (getD ns i 0) ≡ true → getD ns i 0 ≡ whole
-  unfolding nameOn
-  on-found p = sym (round ∙ yes! _ _ _ p)
+module _ (w : Bytes) (d : ℕ) where
+  pub bit-past : length w < d / 8 + 1 → (0 ≡ bitOf w d) × (0 < 2)
+  unfolding bitOf
+  bit-past h = (sym (lt+ _ _ _ _ h), omega arith)
 
-  pub on-next : isNameOf text w (getD ks i 0) (getD ns i 0) ≡ false → whole ≡ nameOn text w ks ps ns (rounds - 1) (link ps i)
-  unfolding nameOn
-  on-next p = round ∙ nay! _ _ _ p
+  pub bit-is : (b : ℕ) → d / 8 + 1 ≤ length w → b ≡ byteAt w (length w - (d / 8 + 1)) → (b / 2 ^ (d % 8) % 2 ≡ bitOf w d) × (b / 2 ^ (d % 8) % 2 < 2)
+  unfolding bitOf
+  bit-is b h e = (ap (λ (x : ℕ). x / 2 ^ (d % 8) % 2) e ∙ sym (lt- _ _ _ _ h), omega arith)
 
-on-zero : (text w : Bytes) (ks ps ns : List ℕ) (rounds : ℕ) → nameOn text w ks ps ns rounds 0 ≡ 0
-unfolding nameOn
-on-zero text w ks ps ns zero = refl
-on-zero text w ks ps ns (suc rounds) = refl
+-- the walk: at a link and a depth, what is come by from here is come by from the head
+pub record On (text w : Bytes) (ks ns ls : List ℕ) (count heads head s d c : ℕ) : Type 0 where
+  pub is : c ≡ getD ls s 0
+  pub low : c ≤ count
+  pub within : s < heads + 2 * count
+  pub deep : 0 < c → d < c
+  pub miss : ((j : ℕ) → Reach heads ls w d s j → isNameOf text w (getD ks j 0) (getD ns j 0) ≡ false) → (j : ℕ) → Reach heads ls w 0 head j → isNameOf text w (getD ks j 0) (getD ns j 0) ≡ false
+  pub path : (ls′ : List ℕ) (j : ℕ) → Keeps ls ls′ → Reach heads ls′ w d s j → Reach heads ls′ w 0 head j
 
-pub on-end : (text w : Bytes) (ks ps ns : List ℕ) (rounds c whole : ℕ) → c ≤ 0 → whole ≡ nameOn text w ks ps ns rounds c → 0 ≡ whole
-on-end text w ks ps ns rounds c whole p e = let q : c ≡ 0 = omega arith in sym (e ∙ (ap (nameOn text w ks ps ns rounds) q ∙ on-zero text w ks ps ns rounds))
+module _ (heads : ℕ) (ls : List ℕ) (w : Bytes) (f : ℕ → Bool) where
+  split : (d s i j : ℕ) → getD ls s 0 ≡ suc i → f i ≡ false → ((j : ℕ) → Reach heads ls w (d + 1) (branch heads w d i) j → f j ≡ false) → Reach heads ls w d s j → f j ≡ false
+  split d s i _ e p q (here _ _ k y) = let a : i ≡ k = omega arith in ap f (sym a) ∙ p
+  split d s i _ e p q (there _ _ k m y r) = let a : k ≡ i = omega arith in q m (rw a at r)
 
--- what it comes to: a token of the spelling, or none on the chain
-pub data Met (text w : Bytes) (ks ps ns : List ℕ) (count head r : ℕ) : Type 0 where
-  met : (j : ℕ) → j < count → isNameOf text w (getD ks j 0) (getD ns j 0) ≡ true → r ≡ getD ns j 0 → Met text w ks ps ns count head r
-  none : ((j : ℕ) → Reach ps head j → isNameOf text w (getD ks j 0) (getD ns j 0) ≡ false) → r ≡ 0 → Met text w ks ps ns count head r
+  nowhere : (d s j : ℕ) → getD ls s 0 ≡ 0 → Reach heads ls w d s j → f j ≡ false
+  nowhere d s _ h (here _ _ k y) = absurd (omega arith)
+  nowhere d s _ h (there _ _ i m y r) = absurd (omega arith)
 
-module _ (ps : List ℕ) (f : ℕ → Bool) where
-  split : (i c j : ℕ) → c ≡ suc i → Reach ps c j → f i ≡ false → ((j : ℕ) → Reach ps (link ps i) j → f j ≡ false) → f j ≡ false
-  split i _ _ e (here k) p q = let a : i ≡ k = omega arith in ap f (sym a) ∙ p
-  split i _ _ e (there k m r) p q = let a : k ≡ i = omega arith in q m (rw a at r)
+module _ (text w : Bytes) (ks ns ls : List ℕ) (count heads head : ℕ) (rising : Rising ls heads count) where
+  pub on-start : head < heads → (c : ℕ) → c ≡ getD ls head 0 → On text w ks ns ls count heads head head 0 c
+  on-start h c e = let l = rising .low head in record { is = e; low = omega arith; within = omega arith; deep = λ p. p; miss = λ f. f; path = λ ls′ j k r. r }
 
-  nowhere : (c j : ℕ) → c ≤ 0 → Reach ps c j → f j ≡ false
-  nowhere _ _ h (here k) = absurd (omega arith)
-  nowhere _ _ h (there i m r) = absurd (omega arith)
+  module _ (s d c : ℕ) (on : On text w ks ns ls count heads head s d c) where
+    pub on-next : (i s′ c′ : ℕ) → c ≡ suc i → isNameOf text w (getD ks i 0) (getD ns i 0) ≡ false → s′ ≡ branch heads w d i → c′ ≡ getD ls s′ 0 → On text w ks ns ls count heads head s′ (d + 1) c′
+    on-next i s′ c′ e f q y =
+        let l = rising .low s′ in
+        let a = on .low in
+        let b = bit-low w d in
+        let z : getD ls s 0 ≡ suc i = sym (on .is) ∙ e in
+        record {
+          is = y;
+          low = omega arith;
+          within = omega arith;
+          deep = λ p. let u = rising .rises i (bitOf w d) b (let v : c′ ≡ getD ls (branch heads w d i) 0 = y ∙ ap (λ (x : ℕ). getD ls x 0) q in omega (arith, v, p)) in let v : c′ ≡ getD ls (branch heads w d i) 0 = y ∙ ap (λ (x : ℕ). getD ls x 0) q in let t = on .deep (omega (arith, e)) in omega (arith, u, v, t, e);
+          miss = λ g. on .miss (λ j r. split heads ls w (λ k. isNameOf text w (getD ks k 0) (getD ns k 0)) d s i j z f (λ k x. g k (rw q x)) r);
+          path = λ ls′ j k r. on .path ls′ j k (there d s i j (k s (λ o. absurd (omega (arith, o, z))) ∙ z) (rw q at r));
+        }
 
-module _ (text w : Bytes) (ks ps ns : List ℕ) (count : ℕ) (falls : (j : ℕ) → j < count → link ps j ≤ j) where
-  further : (i r : ℕ) → isNameOf text w (getD ks i 0) (getD ns i 0) ≡ false → Met text w ks ps ns count (link ps i) r → Met text w ks ps ns count (suc i) r
-  further i r p (met j l e q) = met j l e q
-  further i r p (none f q) = none (λ j x. split ps (λ k. isNameOf text w (getD ks k 0) (getD ns k 0)) i (suc i) j refl x p f) q
+    pub on-end : c ≤ 0 → Walked text w ks ns ls count heads head (Free s)
+    on-end h =
+        let e = on .is in
+        let z : getD ls s 0 ≡ 0 = omega arith in
+        none s refl (on .within) z (on .miss (λ j r. nowhere heads ls w (λ k. isNameOf text w (getD ks k 0) (getD ns k 0)) d s j z r)) (λ ls′ j k q. on .path ls′ j k (here d s j q))
 
-  on-none : (rounds c : ℕ) → c ≡ 0 → Met text w ks ps ns count c (nameOn text w ks ps ns rounds c)
-  on-none rounds c e = none (λ j x. nowhere ps (λ k. isNameOf text w (getD ks k 0) (getD ns k 0)) c j (omega arith) x) (ap (nameOn text w ks ps ns rounds) e ∙ on-zero text w ks ps ns rounds)
-
-  on-step : (rounds i : ℕ) → suc i ≤ suc rounds → suc i ≤ count → Met text w ks ps ns count (link ps i) (nameOn text w ks ps ns rounds (link ps i))
-      → (t : Bool) → isNameOf text w (getD ks i 0) (getD ns i 0) ≡ t → Met text w ks ps ns count (suc i) (nameOn text w ks ps ns (suc rounds) (suc i))
-  on-step rounds i p l m true e = met i (omega arith) e (sym (on-found text w ks ps ns (suc rounds) (suc i) i _ refl p refl e))
-  on-step rounds i p l m false e =
-      let q : suc rounds - 1 ≡ rounds = omega arith in
-      rw (on-next text w ks ps ns (suc rounds) (suc i) i _ refl p refl e ∙ ap (λ (n : ℕ). nameOn text w ks ps ns n (link ps i)) q) (further i _ e m)
-
-  pub on-met : (rounds c : ℕ) → c ≤ rounds → c ≤ count → Met text w ks ps ns count c (nameOn text w ks ps ns rounds c)
-  on-met zero c p l = on-none 0 c (omega arith)
-  on-met (suc rounds) zero p l = on-none (suc rounds) 0 refl
-  on-met (suc rounds) (suc i) p l =
-      let k = falls i (omega arith) in
-      on-step rounds i p l (on-met rounds (link ps i) (omega arith) (omega arith)) (isNameOf text w (getD ks i 0) (getD ns i 0)) refl
-
--- links taken away, from the front
-abbrev pub mixed : ℕ → List ℕ → List ℕ
-mixed i w = map bare (take i w) ++ drop i w
-
-mixed-suc : (i : ℕ) (w : List ℕ) → i < length w → set (mixed i w) i (bare (getD (mixed i w) i 0)) ≡ mixed (suc i) w
-mixed-suc i [] h = absurd (omega arith)
-mixed-suc zero (x ∷ w) h = refl
-mixed-suc (suc i) (x ∷ w) h = ap (λ (l : List ℕ). bare x ∷ l) (mixed-suc i w (omega arith))
-
-pub mixed-more : (i : ℕ) (w l : List ℕ) → i < length w → l ≡ mixed i w → set l i (bare (getD l i 0)) ≡ mixed (i + 1) w
-mixed-more i w l h e = ap (λ (x : List ℕ). set x i (bare (getD x i 0))) e ∙ (mixed-suc i w h ∙ ap (λ (n : ℕ). mixed n w) (sym (add-one i)))
-
-pub mixed-end : (i : ℕ) (w l : List ℕ) → length w ≤ i → l ≡ mixed i w → l ≡ map bare w
-mixed-end i w l h e = e ∙ (ap (λ (x : List ℕ). map bare x ++ drop i w) (take-all i w h) ∙ (ap (λ (x : List ℕ). map bare w ++ x) (drop-of-length-le w h) ∙ append-nil (map bare w)))
-
--- a place stored
-pub map-set : (f : ℕ → ℕ) (l : List ℕ) (i v : ℕ) → map f (set l i v) ≡ set (map f l) i (f v)
-map-set f [] i v = refl
-map-set f (x ∷ l) zero v = refl
-map-set f (x ∷ l) (suc i) v = ap (λ (t : List ℕ). f x ∷ t) (map-set f l i v)
-
-pub bare-set : (l : List ℕ) (i v at : ℕ) → bare v ≡ at → map bare (set l i v) ≡ set (map bare l) i at
-bare-set l i v at e = map-set bare l i v ∙ ap (λ (x : ℕ). set (map bare l) i x) e
+    pub on-found : (i : ℕ) → c ≡ suc i → isNameOf text w (getD ks i 0) (getD ns i 0) ≡ true → Walked text w ks ns ls count heads head (Known (getD ns i 0))
+    on-found i e p = let l = on .low in met i (omega arith) p refl

@@ -2,7 +2,7 @@
 use mathlib.Core.Path.{_≡_, sym, ap, _∙_}
 use mathlib.Core.Bool.{true, false, _||_}
 use mathlib.Core.List.{List}
-use Prim.Native.Nat.{ℕ, _≤_, _<_}
+use Prim.Native.Nat.{ℕ, _+_, _*_, _≤_, _<_}
 use native.Mathlib.Omega.{arith}
 use borrow.Author.Tests.{lt-ltb, le-ltb}
 use lib.Dec.{ltb}
@@ -15,7 +15,6 @@ use Rattle.definition.specs.Cut.{Cutting, cut, aboveAscii, checkBytes, tokenize
 use Rattle.scan.proofs.Branch.{yes!, nay!, lt+, lt-, either-first, either-second, neither}
 use Rattle.scan.proofs.Going.{first-from}
 use Rattle.cutting.proofs.Steps.{via, halt}
-use Rattle.chains.specs.Chain.{HeadCount}
 use Rattle.tokens.specs.Columns.{padded, out, shown, short, answered, RoomIf, Zero, Fills, Lexes}
 use Rattle.tokens.specs.declared.Lexing.{Lexing}
 use Rattle.tokens.specs.declared.Lexing.the-variants.{Done, Refused}
@@ -74,9 +73,9 @@ room-if text ks ps ns a b c = record { run = λ h. record { fits = h; kinds = om
 zero-long : (l : List ℕ) (n : ℕ) → l ≡ replicate n 0 → length l ≡ n
 zero-long l n e = ap (λ (x : List ℕ). length x) e ∙ length-replicate n 0
 
--- heads of chains, all cleared
-pub heads-clear : (heads : List ℕ) (n : ℕ) → HeadCount n → heads ≡ replicate n 0 → HeadCount (length heads) × (heads ≡ replicate (length heads) 0)
-heads-clear heads n h e = let l = zero-long heads n e in (rw l h, e ∙ ap (λ (i : ℕ). replicate i 0) (sym l))
+-- links, all cleared: the heads, and two for each byte of a text
+pub links-clear : (text : Bytes) (ls : List ℕ) (heads n : ℕ) → heads + 2 * length text ≤ n → ls ≡ replicate n 0 → (heads + 2 * length text ≤ length ls) × (ls ≡ replicate (length ls) 0)
+links-clear text ls heads n h e = let l = zero-long ls n e in (omega arith, e ∙ ap (λ (i : ℕ). replicate i 0) (sym l))
 
 module _ (text : Bytes) (ks ps ns ks′ ps′ ns′ : List ℕ) where
   -- zeros, and a refusal

@@ -2,10 +2,10 @@
 use mathlib.Core.Path.{_≡_, refl, sym, ap, _∙_}
 use mathlib.Core.Bool.{Bool, true, false}
 use mathlib.Core.List.{List, [], _∷_, _++_, map, map-append, append-assoc}
-use Prim.Native.Nat.{ℕ, zero, suc, _+_, _-_, _≤_, _<_}
+use Prim.Native.Nat.{ℕ, zero, suc, _+_, _-_, _*_, _≤_, _<_}
 use native.Mathlib.Omega.{arith}
-use lib.ListN.{length, getD, set, take, drop, replicate, length-append, length-set, length-map}
-use lib.Seq.{set-at, getD-set-other}
+use lib.ListN.{length, getD, set, replicate, length-append, length-set, length-map}
+use lib.Seq.{set-at}
 use Rattle.definition.specs.Answer.{Answer, got, refused}
 use Rattle.definition.specs.Text.{Bytes}
 use Rattle.definition.specs.Token.{Token}
@@ -15,15 +15,13 @@ use Rattle.cutting.specs.Pieces.{state, applied, CutsOn}
 use Rattle.cutting.specs.declared.Piece.{Piece}
 use Rattle.cutting.specs.declared.Piece.the-variants.{Skip, Token as Piece·Token, Name, Refused}
 use Rattle.cutting.proofs.Steps.{via, halt}
-use Rattle.tokens.specs.Columns.{padded, Holds, Fills, Room, Zero, Rest}
+use Rattle.tokens.specs.Columns.{padded, Holds, Fills, Room, Zero}
 use Rattle.definition.specs.Kind.{isName}
-use Rattle.chains.specs.Chain.{HeadCount, bare, Chained}
+use Rattle.chains.specs.Chain.{HeadCount, Rising, Chained}
 use Rattle.chains.proofs.Kept.{chained-plain}
-use Rattle.chains.proofs.Steps.{bare-set}
 use Rattle.tokens.specs.Names.{Finds, Searches, Stores}
 use Rattle.definition.specs.Spelling.{knownName}
-use Rattle.tokens.specs.declared.Lexing.{Lexing}
-use Rattle.tokens.specs.declared.Lexing.the-variants.{Done, Refused as Lexing·Refused}
+use Rattle.tokens.specs.declared.Lexing.the-variants.{Done}
 use Rattle.tokens.specs.Going.{Going, Linked}
 use Rattle.tokens.proofs.Meeting.{plain-more, met}
 
@@ -102,24 +100,23 @@ module _ (text : Bytes) (at : ℕ) (line : Bool) (count : ℕ) (ks ps ns : List 
   pub go-count : Room text ks ps ns → (count < length ks) × (count < length ps) × (count < length ns)
   go-count room = let w = g .few in let a = room .fits in let b = room .kinds in let c = room .places in let d = room .numbers in (omega arith, omega arith, omega arith)
 
-  pub go-search : (k to : ℕ) → r ≡ Name k to → Room text ks ps ns → (ls heads : List ℕ) → ps ≡ map bare ls → HeadCount (length heads) → Chained text ks ls ns heads count
-      → Searches text ks ls ns heads count at to
-  go-search k to e room ls heads same l chained =
+  pub go-search : (k to : ℕ) → r ≡ Name k to → Room text ks ps ns → (ls : List ℕ) (heads : ℕ) → HeadCount heads → heads + 2 * length text ≤ length ls → Chained text ks ns ls heads count
+      → Searches text ks ps ns ls heads count at to
+  go-search k to e room ls heads l long chained =
       let f = (rw e at (cuts .fine)) in
       let w = go-count room in
-      let n : length ps ≡ length ls = ap (λ (x : List ℕ). length x) same ∙ length-map ls bare in
-      let p = w .1 in
+      let y = g .few in
       record {
         kinds = w .0;
-        places = omega arith;
+        places = w .1;
         numbers = w .2;
         hashes = l;
+        links = omega (arith, y, long, inside);
         few = g .few;
         on = on-name k to e;
         ends = f .1;
         short = room .fits;
         inside = λ j p q. g .named .good j p q .inside;
-        some = λ j p q. g .named .good j p q .some;
         chained = chained;
       }
 
@@ -198,138 +195,72 @@ room-kept text ks ps ns ks′ ps′ ns′ r a b c =
     let x = r .kinds in let y = r .places in let z = r .numbers in
     record { fits = r .fits; kinds = omega arith; places = omega arith; numbers = omega arith }
 
-pub room-bare : (text : Bytes) (ks ps ns : List ℕ) → Room text ks ps ns → Room text ks (map bare ps) ns
-room-bare text ks ps ns r = room-kept text ks ps ns ks (map bare ps) ns r refl (length-map ps bare) refl
-
--- columns of zeros have no chains
+-- links of zeros have no trees
 zeros-at : (n i : ℕ) → _≡_ {A = ℕ} (getD (replicate n 0) i 0) 0
 zeros-at zero i = refl
 zeros-at (suc n) zero = refl
 zeros-at (suc n) (suc i) = zeros-at n i
 
-pub zero-bare : (ks ps ns : List ℕ) → Zero ks ps ns ks ps ns → Zero ks (map bare ps) ns ks (map bare ps) ns
-zero-bare ks ps ns z = record { kinds = z .kinds; places = bare-zeros ps (length ps) (z .places) ∙ ap (λ (n : ℕ). replicate n 0) (sym (length-map ps bare)); numbers = z .numbers }
+rising-start : (ls : List ℕ) (n heads : ℕ) → ls ≡ replicate n 0 → Rising ls heads 0
+rising-start ls n heads e = record { low = λ s. (let a = zero-at s in omega arith); rises = λ i b p q. (let a = zero-at (heads + 2 * i + b) in absurd (omega (arith, a, q))) }
   where
-    bare-zeros′ : (n : ℕ) → map bare (replicate n 0) ≡ replicate n 0
-    bare-zeros′ zero = refl
-    bare-zeros′ (suc n) = ap (λ (l : List ℕ). 0 ∷ l) (bare-zeros′ n)
+    zero-at : (s : ℕ) → getD ls s 0 ≡ 0
+    zero-at s = ap (λ (x : List ℕ). getD x s 0) e ∙ zeros-at n s
 
-    bare-zeros : (l : List ℕ) (n : ℕ) → l ≡ replicate n 0 → map bare l ≡ replicate n 0
-    bare-zeros l n e = ap (λ (x : List ℕ). map bare x) e ∙ bare-zeros′ n
-
-pub chained-start : (text : Bytes) (ks ps ns heads : List ℕ) (n : ℕ) → heads ≡ replicate n 0 → Chained text ks ps ns heads 0
-chained-start text ks ps ns heads n e = record {
-  falls = λ j p. absurd (omega arith);
-  low = λ h. rw (ap (λ (x : List ℕ). getD x h 0) e ∙ zeros-at n h) (omega arith);
-  chain = λ j p q. absurd (omega arith);
-}
-
--- no link stands after the last token
-zeros-rest : (ps : List ℕ) (n : ℕ) → ps ≡ replicate n 0 → (i : ℕ) → getD ps i 0 ≡ 0
-zeros-rest ps n e i = ap (λ (x : List ℕ). getD x i 0) e ∙ zeros-at n i
-
-rest-more : (ps ps′ : List ℕ) (count v : ℕ) → ((i : ℕ) → count ≤ i → getD ps i 0 ≡ 0) → ps′ ≡ set ps count v → (i : ℕ) → count + 1 ≤ i → getD ps′ i 0 ≡ 0
-rest-more ps ps′ count v h e i p = ap (λ (x : List ℕ). getD x i 0) e ∙ (getD-set-other ps count i v 0 (λ q. absurd (omega arith)) ∙ h i (omega arith))
-
-pub rest-done : (count : ℕ) (ps : List ℕ) → ((i : ℕ) → count ≤ i → getD ps i 0 ≡ 0) → Rest (Done count) ps
-rest-done count ps h = record { rest = λ c i e p. let q : count ≡ c = cc in h i (omega arith) }
-
-pub rest-refused : (n at : ℕ) (ps : List ℕ) → Rest (Lexing·Refused n at) ps
-rest-refused n at ps = record { rest = λ c i e p. let q : _≡_ {A = ℕ} 0 1 = cc in absurd (omega arith) }
-
--- so the first places made bare are all of them
-bare-none : (ps : List ℕ) → ((i : ℕ) → getD ps i 0 ≡ 0) → ps ≡ map bare ps
-bare-none [] h = refl
-bare-none (x ∷ ps) h = rw (h 0) (ap (λ (l : List ℕ). 0 ∷ l) (bare-none ps (λ i. h (suc i))))
-
-pub bare-front : (count : ℕ) (ps : List ℕ) → ((i : ℕ) → count ≤ i → getD ps i 0 ≡ 0) → map bare (take count ps) ++ drop count ps ≡ map bare ps
-bare-front zero ps h = bare-none ps (λ i. h i (omega arith))
-bare-front (suc count) [] h = refl
-bare-front (suc count) (x ∷ ps) h = ap (λ (l : List ℕ). bare x ∷ l) (bare-front count ps (λ i p. h (suc i) (omega arith)))
+chained-start : (text : Bytes) (ks ns ls : List ℕ) (n heads : ℕ) → ls ≡ replicate n 0 → Chained text ks ns ls heads 0
+chained-start text ks ns ls n heads e = record { rising = rising-start ls n heads e; chain = λ j p q. absurd (omega arith) }
 
 -- the loop with the links
-pub link-start : (text : Bytes) (ks ps ns heads : List ℕ) → Room text ks ps ns → Zero ks ps ns ks ps ns → HeadCount (length heads) → heads ≡ replicate (length heads) 0 → Linked text 0 true 0 ks ps ns heads (cut text)
-link-start text ks ps ns heads room z l e = record {
-  going = go-start text ks (map bare ps) ns (zero-bare ks ps ns z);
+pub link-start : (text : Bytes) (ks ps ns ls : List ℕ) (heads : ℕ) → Room text ks ps ns → Zero ks ps ns ks ps ns → HeadCount heads → heads + 2 * length text ≤ length ls → ls ≡ replicate (length ls) 0 → Linked text 0 true 0 ks ps ns ls heads (cut text)
+link-start text ks ps ns ls heads room z l long e = record {
+  going = go-start text ks ps ns z;
   room = room;
   hashes = l;
-  chained = chained-start text ks ps ns heads (length heads) e;
-  rest = λ i p. zeros-rest ps (length ps) (z .places) i;
+  links = long;
+  chained = chained-start text ks ns ls (length ls) heads e;
 }
 
-module _ (text : Bytes) (at : ℕ) (line : Bool) (count : ℕ) (ks ps ns heads : List ℕ) (whole : Answer Cutting) (g : Linked text at line count ks ps ns heads whole)
+module _ (text : Bytes) (at : ℕ) (line : Bool) (count : ℕ) (ks ps ns ls : List ℕ) (heads : ℕ) (whole : Answer Cutting) (g : Linked text at line count ks ps ns ls heads whole)
     (inside : at < length text) (r : Piece) (cuts : CutsOn (cutNext text) text at line r) where
-  bare-room : Room text ks (map bare ps) ns
-  bare-room = room-bare text ks ps ns (g .room)
-
   pub link-refused : (n p : ℕ) → r ≡ Refused n p → whole ≡ refused n p
-  link-refused = go-refused text at line count ks (map bare ps) ns whole (g .going) inside r cuts
+  link-refused = go-refused text at line count ks ps ns whole (g .going) inside r cuts
 
-  pub link-skip : (to : ℕ) (starts : Bool) → r ≡ Skip to starts → Linked text to starts count ks ps ns heads whole
-  link-skip to starts e = record { going = go-skip text at line count ks (map bare ps) ns whole (g .going) inside r cuts to starts e; room = g .room; hashes = g .hashes; chained = g .chained; rest = g .rest }
+  pub link-skip : (to : ℕ) (starts : Bool) → r ≡ Skip to starts → Linked text to starts count ks ps ns ls heads whole
+  link-skip to starts e = record { going = go-skip text at line count ks ps ns whole (g .going) inside r cuts to starts e; room = g .room; hashes = g .hashes; links = g .links; chained = g .chained }
 
   pub skip-on : (to : ℕ) (starts : Bool) → r ≡ Skip to starts → at < to
-  skip-on = on-skip text at line count ks (map bare ps) ns whole (g .going) inside r cuts
+  skip-on = on-skip text at line count ks ps ns whole (g .going) inside r cuts
 
   pub token-on : (k n to : ℕ) → r ≡ Piece·Token k n to → at < to
-  token-on = on-token text at line count ks (map bare ps) ns whole (g .going) inside r cuts
+  token-on = on-token text at line count ks ps ns whole (g .going) inside r cuts
 
   pub name-on : (k to : ℕ) → r ≡ Name k to → at < to
-  name-on = on-name text at line count ks (map bare ps) ns whole (g .going) inside r cuts
+  name-on = on-name text at line count ks ps ns whole (g .going) inside r cuts
 
   pub link-count : (count < length ks) × (count < length ps) × (count < length ns)
-  link-count =
-      let w = go-count text at line count ks (map bare ps) ns whole (g .going) inside r cuts bare-room in
-      let l : length (map bare ps) ≡ length ps = length-map ps bare in
-      let p = w .1 in
-      (w .0, omega (arith, l, p), w .2)
+  link-count = go-count text at line count ks ps ns whole (g .going) inside r cuts (g .room)
 
-  pub link-search : (k to : ℕ) → r ≡ Name k to → Searches text ks ps ns heads count at to
-  link-search k to e = go-search text at line count ks (map bare ps) ns whole (g .going) inside r cuts k to e bare-room ps heads refl (g .hashes) (g .chained)
+  pub link-search : (k to : ℕ) → r ≡ Name k to → Searches text ks ps ns ls heads count at to
+  link-search k to e = go-search text at line count ks ps ns whole (g .going) inside r cuts k to e (g .room) ls heads (g .hashes) (g .links) (g .chained)
 
-  pub link-token : (k n to : ℕ) (ks′ ps′ ns′ : List ℕ) → r ≡ Piece·Token k n to → ks′ ≡ set ks count k → ps′ ≡ set ps count at → ns′ ≡ set ns count n → Linked text to false (count + 1) ks′ ps′ ns′ heads whole
+  pub link-token : (k n to : ℕ) (ks′ ps′ ns′ : List ℕ) → r ≡ Piece·Token k n to → ks′ ≡ set ks count k → ps′ ≡ set ps count at → ns′ ≡ set ns count n → Linked text to false (count + 1) ks′ ps′ ns′ ls heads whole
   link-token k n to ks′ ps′ ns′ e a b c =
-      let l = g .room .fits in
       let w = link-count in
       record {
-        going = go-token text at line count ks (map bare ps) ns whole (g .going) inside r cuts bare-room ks′ (map bare ps′) ns′ k n to e a (ap (λ (x : List ℕ). map bare x) b ∙ bare-set ps count at at (omega arith)) c;
+        going = go-token text at line count ks ps ns whole (g .going) inside r cuts (g .room) ks′ ps′ ns′ k n to e a b c;
         room = room-kept text ks ps ns ks′ ps′ ns′ (g .room) (long-set ks ks′ count k a) (long-set ps ps′ count at b) (long-set ns ns′ count n c);
         hashes = g .hashes;
-        chained = rw (a, b, c) (chained-plain text ks ps ns heads count k at n (g .chained) (w .1) (w .0) (w .2) (omega arith) (plain-token text at line count ks (map bare ps) ns whole (g .going) inside r cuts k n to e));
-        rest = rest-more ps ps′ count at (g .rest) b;
+        links = g .links;
+        chained = rw (a, c) (chained-plain text ks ns ls heads count k n (g .chained) (w .0) (w .2) (plain-token text at line count ks ps ns whole (g .going) inside r cuts k n to e));
       }
 
-  pub link-name : (k to : ℕ) (ks′ ps′ ns′ heads′ : List ℕ) → r ≡ Name k to → Stores text ks ps ns count k at to ks′ ps′ ns′ heads′ → length ps′ ≡ length ps → Linked text to false (count + 1) ks′ ps′ ns′ heads′ whole
-  link-name k to ks′ ps′ ns′ heads′ e s l = record {
-    going = go-name text at line count ks (map bare ps) ns whole (g .going) inside r cuts bare-room ks′ (map bare ps′) ns′ k (s .number) to e (s .finds) (s .kinds) (s .places) (s .numbers);
-    room = room-kept text ks ps ns ks′ ps′ ns′ (g .room) (long-set ks ks′ count k (s .kinds)) l (long-set ns ns′ count (s .number) (s .numbers));
-    hashes = s .hashes;
-    chained = s .chained;
-    rest = rest-more ps ps′ count (s .linked) (g .rest) (s .raw);
-  }
-
--- the places alone, after the loop
-module _ {text : Bytes} {r : Lexing} {ks ps ns : List ℕ} (f : Fills text r ks (map bare ps) ns) (z : Rest r ps) where
-  pub fill-count : (c : ℕ) → r ≡ Done c → c ≤ length ps
-  unfolding padded
-  fill-count c e = go f
-    where
-      go : Fills text r ks (map bare ps) ns → c ≤ length ps
-      go (Fills.stop n p q w) = let y : _≡_ {A = ℕ} 0 1 = cc in absurd (omega arith)
-      go (Fills.done s q w h) =
-          let y : c ≡ length (s .tokens) = cc in
-          let xs = map (λ t. t .place) (s .tokens) in
-          let l : length (map bare ps) ≡ length (xs ++ replicate (length (map bare ps) - length xs) 0) = ap (λ (x : List ℕ). length x) (h .places) in
-          let m : length xs ≡ length (s .tokens) = length-map (s .tokens) (λ t. t .place) in
-          let k : length (map bare ps) ≡ length ps = length-map ps bare in
-          omega (arith, l, m, k, y, length-append xs (replicate (length (map bare ps) - length xs) 0))
-
-  pub fill-done : (c : ℕ) → r ≡ Done c → (ps′ : List ℕ) → ps′ ≡ map bare (take c ps) → Fills text (Done c) ks (ps′ ++ drop c ps) ns
-  fill-done c e ps′ q = rw (ap (λ (x : List ℕ). x ++ drop c ps) q ∙ bare-front c ps (λ i p. z .rest c i e p), ← e) f
-
-  pub fill-refused : (n p : ℕ) → r ≡ Lexing·Refused n p → (ps′ : List ℕ) → Fills text (Lexing·Refused n p) ks ps′ ns
-  fill-refused n p e ps′ = go f
-    where
-      go : Fills text r ks (map bare ps) ns → Fills text (Lexing·Refused n p) ks ps′ ns
-      go (Fills.stop m at q w) = Fills.stop n p (q ∙ (let y : m ≡ n = cc in let u : at ≡ p = cc in rw (y, u))) refl
-      go (Fills.done s q w h) = let y : _≡_ {A = ℕ} 0 1 = cc in absurd (omega arith)
+  pub link-name : (k to : ℕ) (ks′ ps′ ns′ ls′ : List ℕ) → r ≡ Name k to → Stores text ks ps ns heads count k at to ks′ ps′ ns′ ls′ → length ls′ ≡ length ls → Linked text to false (count + 1) ks′ ps′ ns′ ls′ heads whole
+  link-name k to ks′ ps′ ns′ ls′ e s l =
+      let long = g .links in
+      record {
+        going = go-name text at line count ks ps ns whole (g .going) inside r cuts (g .room) ks′ ps′ ns′ k (s .number) to e (s .finds) (s .kinds) (s .places) (s .numbers);
+        room = room-kept text ks ps ns ks′ ps′ ns′ (g .room) (long-set ks ks′ count k (s .kinds)) (long-set ps ps′ count at (s .places)) (long-set ns ns′ count (s .number) (s .numbers));
+        hashes = g .hashes;
+        links = omega (arith, l, long);
+        chained = s .chained;
+      }

@@ -4,7 +4,7 @@ use mathlib.Core.Bool.{Bool, true, false, _||_}
 use mathlib.Core.List.{List, [], _++_, map}
 use Prim.Native.Nat.{ℕ, _-_, _≤_}
 use lib.Dec.{ltb}
-use lib.ListN.{length, getD, replicate}
+use lib.ListN.{length, replicate}
 use Rattle.definition.specs.Answer.{Answer, got, refused}
 use Rattle.definition.specs.Refusal.{badCall}
 use Rattle.definition.specs.Limit.{maxText}
@@ -70,10 +70,6 @@ pub record Zero (ks ps ns ks′ ps′ ns′ : List ℕ) : Type 0 where
 pub data Fills (text : Bytes) (r : Lexing) (ks ps ns : List ℕ) : Type 0 where
   done : (s : Cutting) → cut text ≡ got s → r ≡ Done (length (s .tokens)) → Holds (s .tokens) ks ps ns → Fills text r ks ps ns
   stop : (n p : ℕ) → cut text ≡ refused n p → r ≡ Refused n p → Fills text r ks ps ns
-
--- nothing stands after the last place, no link either
-pub record Rest (r : Lexing) (ps : List ℕ) : Type 0 where
-  pub rest : (count i : ℕ) → r ≡ Done count → count ≤ i → getD ps i 0 ≡ 0
 
 -- the definition's answer, in columns of any length: the tokens with zeros after them, and nothing said of the columns on a refusal
 pub data Lexes (a : Answer Lexed) (r : Lexing) (ks ps ns : List ℕ) : Type 0 where

@@ -1,9 +1,9 @@
 // A text cut into tokens, in three columns that the caller lends: kinds, places and numbers.
 use chains::FEW_HEADS;
 use chains::HEADS;
-use chains::LINK;
+use chains::LINKS;
 use chains::NAME_LENGTH;
-use chains::bare;
+use chains::Spot;
 use chains::slot;
 use chains::walk;
 use clearing::clear_u32;
@@ -12,13 +12,12 @@ use cutting::Piece;
 use cutting::next;
 use scan::byte_at;
 ghost use mathlib.Core.Path.{_≡_};
-ghost use mathlib.Core.List.{map};
-ghost use Prim.Native.Nat.{ℕ, _<_};
+ghost use Prim.Native.Nat.{ℕ, _+_, _*_, _≤_, _<_};
 ghost use lib.ListN.{length, replicate, set};
 ghost use Rattle.definition.specs.Scan.{before};
 ghost use Rattle.definition.specs.Cut.{aboveAscii, tokenize};
-ghost use Rattle.chains.specs.Chain.{HeadCount, bare};
-ghost use Rattle.tokens.specs.Columns.{out, answered, Room, RoomIf, Zero, Fills, Rest, Lexes};
+ghost use Rattle.chains.specs.Chain.{HeadCount};
+ghost use Rattle.tokens.specs.Columns.{out, answered, Room, RoomIf, Zero, Fills, Lexes};
 ghost use Rattle.tokens.specs.Names.{Searches, Stores};
 
 pub const MAX_TEXT: usize = 32768;
@@ -32,6 +31,10 @@ pub const NOT_ASCII: u32 = 3;
 const LAST_BYTE: u32 = 127;
 
 const SMALL_TEXT: usize = 256;
+
+const FEW_LINKS: usize = FEW_HEADS + LINKS * SMALL_TEXT;
+
+const ALL_LINKS: usize = HEADS + LINKS * MAX_TEXT;
 
 // How many tokens, or a refusal with its number and offset.
 pub enum Lexing {
@@ -83,48 +86,49 @@ fn put(
     numbers[count] = number;
 }
 
-// Stores a name that stands from an offset to another: with the number of a token before of its spelling, or with a new one, then at the head of its chain.
+// Stores a name that stands from an offset to another: with the number of a token before of its spelling, or with a new one, then in the tree of its hash.
 fn put_name(
     text: &[u8],
     kinds: &mut [u32],
     places: &mut [u32],
     numbers: &mut [u64],
-    heads: &mut [u32],
+    links: &mut [u16],
+    heads: usize,
     count: usize,
     kind: u32,
     at: usize,
     end: usize,
 )
-    requires { ⌜ Searches (now text) (now kinds) (now places) (now numbers) (now heads) count at end ⌝ }
-    ensures { λ _. ⌜ Stores (now (text .entry)) (now (kinds .entry)) (now (places .entry)) (now (numbers .entry)) count kind at end (now (kinds .exit)) (now (places .exit)) (now (numbers .exit)) (now (heads .exit)) ⌝ }
+    requires { ⌜ Searches (now text) (now kinds) (now places) (now numbers) (now links) heads count at end ⌝ }
+    ensures { λ _. ⌜ Stores (now (text .entry)) (now (kinds .entry)) (now (places .entry)) (now (numbers .entry)) heads count kind at end (now (kinds .exit)) (now (places .exit)) (now (numbers .exit)) (now (links .exit)) ⌝ }
 {
-    let h = slot(&text[at..end], heads.len());
-    let head = heads[h];
-    let known = walk(text, kinds, places, numbers, count, head as usize, at, end);
-    if known != 0 {
-        put(kinds, places, numbers, count, kind, at as u32, known);
-        return;
+    let head = slot(&text[at..end], heads);
+    let found = walk(text, kinds, numbers, links, count, heads, head, at, end);
+    match found {
+        Spot::Known(name) => put(kinds, places, numbers, count, kind, at as u32, name),
+        Spot::Free(spot) => {
+            let name = NAME_LENGTH * ((end - at) as u64) + (at as u64);
+            put(kinds, places, numbers, count, kind, at as u32, name);
+            links[spot] = (count + 1) as u16;
+        }
     }
-    let name = NAME_LENGTH * ((end - at) as u64) + (at as u64);
-    let place = LINK * head + (at as u32);
-    put(kinds, places, numbers, count, kind, place, name);
-    heads[h] = (count + 1) as u32;
 }
 
-// Fills columns of zeros with the tokens of a text. Until all are read, a name's place has its link beside it.
+// Reads a text to its end. The links are scratch: nothing is said of them.
 fn cut_all(
     text: &[u8],
     kinds: &mut [u32],
     places: &mut [u32],
     numbers: &mut [u64],
-    heads: &mut [u32],
+    links: &mut [u16],
+    heads: usize,
 ) -> Lexing
     requires { ⌜ Room (now text) (now kinds) (now places) (now numbers) ⌝ }
     requires { ⌜ Zero (now kinds) (now places) (now numbers) (now kinds) (now places) (now numbers) ⌝ }
-    requires { ⌜ HeadCount (length (now heads)) ⌝ }
-    requires { ⌜ now heads ≡ replicate (length (now heads)) 0 ⌝ }
-    ensures { λ r. ⌜ Fills (now (text .entry)) r (now (kinds .exit)) (map bare (now (places .exit))) (now (numbers .exit)) ⌝ }
-    ensures { λ r. ⌜ Rest r (now (places .exit)) ⌝ }
+    requires { ⌜ HeadCount heads ⌝ }
+    requires { ⌜ heads + 2 * length (now text) ≤ length (now links) ⌝ }
+    requires { ⌜ now links ≡ replicate (length (now links)) 0 ⌝ }
+    ensures { λ r. ⌜ Fills (now (text .entry)) r (now (kinds .exit)) (now (places .exit)) (now (numbers .exit)) ⌝ }
 {
     let mut at = 0;
     let mut line = true;
@@ -145,7 +149,7 @@ fn cut_all(
                 continue;
             }
             Piece::Name(k, to) => {
-                put_name(text, kinds, places, numbers, heads, count, k, at, to);
+                put_name(text, kinds, places, numbers, links, heads, count, k, at, to);
                 at = to;
                 line = false;
                 count += 1;
@@ -158,52 +162,34 @@ fn cut_all(
 }
 
 fn cut_small(text: &[u8], kinds: &mut [u32], places: &mut [u32], numbers: &mut [u64]) -> Lexing
+    requires { ⌜ length (now text) ≤ 256 ⌝ }
     requires { ⌜ Room (now text) (now kinds) (now places) (now numbers) ⌝ }
     requires { ⌜ Zero (now kinds) (now places) (now numbers) (now kinds) (now places) (now numbers) ⌝ }
-    ensures { λ r. ⌜ Fills (now (text .entry)) r (now (kinds .exit)) (map bare (now (places .exit))) (now (numbers .exit)) ⌝ }
-    ensures { λ r. ⌜ Rest r (now (places .exit)) ⌝ }
+    ensures { λ r. ⌜ Fills (now (text .entry)) r (now (kinds .exit)) (now (places .exit)) (now (numbers .exit)) ⌝ }
 {
-    let mut heads = [0u32; FEW_HEADS];
-    cut_all(text, kinds, places, numbers, &mut heads)
+    let mut links = [0u16; FEW_LINKS];
+    cut_all(text, kinds, places, numbers, &mut links, FEW_HEADS)
 }
 
 fn cut_large(text: &[u8], kinds: &mut [u32], places: &mut [u32], numbers: &mut [u64]) -> Lexing
     requires { ⌜ Room (now text) (now kinds) (now places) (now numbers) ⌝ }
     requires { ⌜ Zero (now kinds) (now places) (now numbers) (now kinds) (now places) (now numbers) ⌝ }
-    ensures { λ r. ⌜ Fills (now (text .entry)) r (now (kinds .exit)) (map bare (now (places .exit))) (now (numbers .exit)) ⌝ }
-    ensures { λ r. ⌜ Rest r (now (places .exit)) ⌝ }
+    ensures { λ r. ⌜ Fills (now (text .entry)) r (now (kinds .exit)) (now (places .exit)) (now (numbers .exit)) ⌝ }
 {
-    let mut heads = [0u32; HEADS];
-    cut_all(text, kinds, places, numbers, &mut heads)
+    let mut links = [0u16; ALL_LINKS];
+    cut_all(text, kinds, places, numbers, &mut links, HEADS)
 }
 
-// To clear many heads takes longer than to read a small text.
+// Fills columns of zeros with the tokens of a text. To clear all links takes longer than to read a small text.
 fn cut(text: &[u8], kinds: &mut [u32], places: &mut [u32], numbers: &mut [u64]) -> Lexing
     requires { ⌜ Room (now text) (now kinds) (now places) (now numbers) ⌝ }
     requires { ⌜ Zero (now kinds) (now places) (now numbers) (now kinds) (now places) (now numbers) ⌝ }
-    ensures { λ r. ⌜ Fills (now (text .entry)) r (now (kinds .exit)) (map bare (now (places .exit))) (now (numbers .exit)) ⌝ }
-    ensures { λ r. ⌜ Rest r (now (places .exit)) ⌝ }
+    ensures { λ r. ⌜ Fills (now (text .entry)) r (now (kinds .exit)) (now (places .exit)) (now (numbers .exit)) ⌝ }
 {
     if text.len() <= SMALL_TEXT {
         return cut_small(text, kinds, places, numbers);
     }
     cut_large(text, kinds, places, numbers)
-}
-
-// Fills columns of zeros with the tokens of a text.
-fn fill(text: &[u8], kinds: &mut [u32], places: &mut [u32], numbers: &mut [u64]) -> Lexing
-    requires { ⌜ Room (now text) (now kinds) (now places) (now numbers) ⌝ }
-    requires { ⌜ Zero (now kinds) (now places) (now numbers) (now kinds) (now places) (now numbers) ⌝ }
-    ensures { λ r. ⌜ Fills (now (text .entry)) r (now (kinds .exit)) (now (places .exit)) (now (numbers .exit)) ⌝ }
-{
-    let r = cut(text, kinds, places, numbers);
-    match r {
-        Lexing::Done(count) => {
-            bare(&mut places[..count]);
-            Lexing::Done(count)
-        }
-        Lexing::Refused(number, offset) => Lexing::Refused(number, offset),
-    }
 }
 
 // The tokens of a text, in columns of zeros with an entry for each byte of it, so that a short text asks for no long ones. A refusal clears nothing.
@@ -219,7 +205,7 @@ pub fn lex(text: &[u8], kinds: &mut [u32], places: &mut [u32], numbers: &mut [u6
     if n < text.len() {
         return Lexing::Refused(NOT_ASCII, n);
     }
-    fill(text, kinds, places, numbers)
+    cut(text, kinds, places, numbers)
 }
 
 // The tokens of a text, in columns of 32,768 entries at least; zeros stand after them, and everywhere on a refusal.

@@ -4,15 +4,16 @@ use Rattle.tokens.proofs.cut_large.Tie as tie
 use Rattle.tokens.proofs.cut_large.Reads as reads
 use Rattle.tokens.proofs.cut_large.Lts as lts
 use Rattle.tokens.proofs.cut_all.Reads as cut-all-reads
+use native.Mathlib.Omega.{arith}
 use mathlib.Core.Path.{refl}
 use Rattle.chains.specs.Chain.{many}
-use Rattle.tokens.proofs.Entry.{heads-clear}
+use Rattle.tokens.proofs.Entry.{links-clear}
 
 slice-aggregate-cut-all : tie.Need-slice-aggregate-cut-all
 slice-aggregate-cut-all c = search needs
 
 cut-all-requires : tie.Need-cut-all-requires
-cut-all-requires c κs = (c .before .before .before .before .before .before .before .before .pre .0, (c .before .before .before .before .before .before .before .before .pre .1, heads-clear _ 4096 (many refl) refl))
+cut-all-requires c κs = (c .before .before .before .before .before .before .before .before .pre .0, (c .before .before .before .before .before .before .before .before .pre .1, (many refl, links-clear (c .before .before .before .before .before .before .before .before .args .text .now) _ 4096 69632 (omega (arith, c .before .before .before .before .before .before .before .before .pre .0 .fits)) refl)))
 
 same-length : tie.Need-same-length
 same-length c = search needs
