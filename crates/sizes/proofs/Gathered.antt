@@ -14,9 +14,6 @@ use Rattle.definition.specs.Table.{Member, carrying}
 use Rattle.definition.specs.Align.{larger, largest}
 use Rattle.table.specs.Held.{noMember}
 use Rattle.table.proofs.Branch.{yes, nay}
-use Rattle.sizes.specs.declared.Align.{Align}
-use Rattle.sizes.specs.declared.Align.the-variants.{Known, Absent}
-use Rattle.sizes.specs.Measure.{align}
 
 module _ (a b c : ℕ) where
   max-grouped : max (max a b) c ≡ max a (max b c)
@@ -31,18 +28,6 @@ larger-grouped (some a) (some b) (some c) = ap some (max-grouped a b c)
 larger-none : (a : Option ℕ) → larger a none ≡ a
 larger-none none = refl
 larger-none (some a) = refl
-
--- the larger of two that the code holds
-module _ {a b : Align} {x : ℕ} (e : a ≡ Known x) where
-  pub only-left : b ≡ Absent → some x ≡ larger (align a) (align b)
-  only-left h = rw (e, h)
-
-  module _ {y : ℕ} (h : b ≡ Known y) where
-    pub right-larger : x < y → some y ≡ larger (align a) (align b)
-    right-larger p = rw (e, h) (ap some (omega arith))
-
-    pub left-larger : y ≤ x → some x ≡ larger (align a) (align b)
-    left-larger p = rw (e, h) (ap some (omega arith))
 
 -- the entries that carry a row
 abbrev rowOf : Member → ℕ
@@ -78,6 +63,9 @@ no-count n left (e ∷ es) z = rw z
 -- the whole is a and what the entries from i on give
 pub record Gathers (f : ℕ → Option ℕ) (n : ℕ) (es : List Member) (i left : ℕ) (a whole : Option ℕ) : Type 0 where
   pub same : whole ≡ larger a (largest f (carrying rowOf n left (drop i es)))
+
+pub begins : {f : ℕ → Option ℕ} {n : ℕ} {es : List Member} {i left : ℕ} {a : Option ℕ} → a ≡ none → Gathers f n es i left a (largest f (carrying rowOf n left (drop i es)))
+begins e = record { same = rw e }
 
 module _ {f : ℕ → Option ℕ} {n : ℕ} {es : List Member} {i left : ℕ} {a whole : Option ℕ} (g : Gathers f n es i left a whole) where
   done : carrying rowOf n left (drop i es) ≡ [] → a ≡ whole

@@ -3,7 +3,7 @@ use mathlib.Core.Path.{_≡_}
 use mathlib.Core.List.{List}
 use mathlib.Core.Bool.{Bool, true, false, _||_}
 use mathlib.Core.Option.{Option, none, some}
-use Prim.Native.Nat.{ℕ, _^_}
+use Prim.Native.Nat.{ℕ, _^_, max}
 use lib.Dec.{eqb, ltb}
 use lib.ListN.{length}
 use Rattle.definition.specs.Model.{Model as Model·meant}
@@ -80,11 +80,31 @@ ownAlign m kind extent =
           ]
     ]
 
--- The alignment of row n as far as some levels deep, of whatever table the slices hold and with as many members as the code was told.
-pub record AlignIs (levels : ℕ) (m : Model) (members n : ℕ) (w d : List ℕ) (r : Align) : Type 0 where
-  pub of : (t : Table) → InWords t w → Extents t d → members ≡ length (t .members) → align r ≡ alignWithin levels (model m) t n
+-- an alignment as a number: 0 where there is none
+unfoldable pub meant : ℕ → Option ℕ
+meant a = elim (eqb a 0) [ true ↦ none | false ↦ some a ]
+
+-- what alignments need of a model: a pointer's alignment, and the cap
+pub record Caps (m : Model·meant) (p q : ℕ) : Type 0 where
+  pub pointer : p ≡ capped m (m .pointer)
+  pub most : q ≡ max (m .maxAlign) 1
+
+pub record OwnAlignIs (pointer most kind extent r : ℕ) : Type 0 where
+  pub of : (m : Model·meant) → Caps m pointer most → meant r ≡ ownAlign m kind extent
+
+-- The alignment of row n as far as some levels deep, of whatever table the slices hold, or nothing said.
+pub record ScalarIs (levels pointer most n : ℕ) (w d : List ℕ) (r : ℕ) : Type 0 where
+  pub of : (m : Model·meant) → Caps m pointer most → (t : Table) → InWords t w → Extents t d → (r ≡ 0 → ⊥) → meant r ≡ alignWithin levels m t n
+
+-- The same with as many members as the code was told.
+pub record WithinIs (levels pointer most members n : ℕ) (w d : List ℕ) (r : ℕ) : Type 0 where
+  pub of : (m : Model·meant) → Caps m pointer most → (t : Table) → InWords t w → Extents t d → members ≡ length (t .members) → meant r ≡ alignWithin levels m t n
 
 -- The largest of its members.
-pub record StrictestIs (levels : ℕ) (m : Model) (members n : ℕ) (w d : List ℕ) (r : Align) : Type 0 where
-  pub of : (t : Table) → InWords t w → Extents t d → members ≡ length (t .members)
-      → align r ≡ largest (λ k. alignWithin levels (model m) t k) (membersOf t n (spanOf (rowAt t n)))
+pub record StrictestIs (levels pointer most members n : ℕ) (w d : List ℕ) (r : ℕ) : Type 0 where
+  pub of : (m : Model·meant) → Caps m pointer most → (t : Table) → InWords t w → Extents t d → members ≡ length (t .members)
+      → meant r ≡ largest (λ k. alignWithin levels m t k) (membersOf t n (spanOf (rowAt t n)))
+
+-- The alignment for a whole model.
+pub record AlignIs (levels : ℕ) (m : Model) (members n : ℕ) (w d : List ℕ) (r : Align) : Type 0 where
+  pub of : (t : Table) → InWords t w → Extents t d → members ≡ length (t .members) → align r ≡ alignWithin levels (model m) t n

@@ -1,10 +1,9 @@
 // The size of a row, exact as far as 64 bits go, and its alignment.
 ghost use mathlib.Core.Path.{_≡_};
-ghost use Prim.Native.Nat.{max};
+ghost use Prim.Native.Nat.{min, max};
 ghost use Rattle.definition.specs.Limit.{alignLevels};
-ghost use Rattle.definition.specs.Align.{larger, orOne, capped};
-ghost use Rattle.words.specs.Meaning.{model};
-ghost use Rattle.sizes.specs.Measure.{among, align, ownAlign, SizeIs, OwnIs, TimesIs, AlignIs, StrictestIs};
+ghost use Rattle.definition.specs.Align.{orOne};
+ghost use Rattle.sizes.specs.Measure.{among, align, SizeIs, OwnIs, TimesIs, OwnAlignIs, ScalarIs, WithinIs, StrictestIs, AlignIs};
 use table::member_row;
 use table::member_type;
 use table::row_count;
@@ -132,10 +131,9 @@ fn at_least_one(x: u64) -> u64
 }
 
 // A scalar's alignment: its size, at least 1 and at most the cap.
-fn capped(m: Model, size: u64) -> u64
-    ensures { λ r. ⌜ r ≡ capped (model m) size ⌝ }
+fn capped(most: u64, size: u64) -> u64
+    ensures { λ r. ⌜ r ≡ min (max size 1) most ⌝ }
 {
-    let most = at_least_one(m.max_align);
     let least = at_least_one(size);
     if most < least {
         return most;
@@ -143,17 +141,11 @@ fn capped(m: Model, size: u64) -> u64
     least
 }
 
-// The larger of two alignments that may be absent.
-fn larger(a: Align, b: Align) -> Align
-    ensures { λ r. ⌜ align r ≡ larger (align a) (align b) ⌝ }
+// The larger of two alignments, 0 where there is none.
+fn larger(a: u64, b: u64) -> u64
+    ensures { λ r. ⌜ r ≡ max a b ⌝ }
 {
-    let Align::Known(x) = a else {
-        return b;
-    };
-    let Align::Known(y) = b else {
-        return a;
-    };
-    if x < y {
+    if a < b {
         return b;
     }
     a
@@ -169,49 +161,85 @@ pub fn or_one(a: Align) -> u64
     x
 }
 
+// Below, an alignment is a number, 0 where there is none, and of the model there are the alignment of a pointer and the cap: a call then copies nothing.
+
 // The alignment of a row that goes by no other and has no members.
-fn own_align(m: Model, kind: u32, extent: u64) -> Align
-    ensures { λ r. ⌜ align r ≡ ownAlign (model m) kind extent ⌝ }
+fn own_align(pointer: u64, most: u64, kind: u32, extent: u64) -> u64
+    ensures { λ r. ⌜ OwnAlignIs pointer most kind extent r ⌝ }
 {
     if among(kind, INT_KIND, FLOAT_KIND, ENUM_KIND) {
-        return Align::Known(capped(m, extent));
+        return capped(most, extent);
     }
     if kind == BOOL_KIND {
-        return Align::Known(1);
+        return 1;
     }
     if kind == POINTER_KIND {
-        return Align::Known(capped(m, m.pointer));
+        return pointer;
     }
-    Align::Absent
+    0
+}
+
+// The alignment of a row that goes by a scalar; 0 says nothing. Most members are such, and need no call.
+fn scalar_align(pointer: u64, most: u64, w: &[u32], d: &[u64], n: u32, levels: u32) -> u64
+    ensures { λ r. ⌜ ScalarIs levels pointer most n (now (w .entry)) (now (d .entry)) r ⌝ }
+{
+    let mut row = n;
+    let mut left = levels;
+    while 0 < left {
+        let kind = row_kind(w, row);
+        if !among(kind, ARRAY_KIND, TYPEDEF_KIND, QUALIFIED_KIND) {
+            let extent = row_extent(d, row);
+            return own_align(pointer, most, kind, extent);
+        }
+        row = row_target(w, row);
+        left = left - 1;
+    }
+    0
 }
 
 // The alignment of a row as far as `levels` rows deep.
-fn align_within(m: Model, w: &[u32], d: &[u64], members: usize, n: u32, levels: u32) -> Align
-    ensures { λ r. ⌜ AlignIs levels m members n (now (w .entry)) (now (d .entry)) r ⌝ }
+fn align_within(
+    pointer: u64,
+    most: u64,
+    w: &[u32],
+    d: &[u64],
+    members: usize,
+    n: u32,
+    levels: u32,
+) -> u64
+    ensures { λ r. ⌜ WithinIs levels pointer most members n (now (w .entry)) (now (d .entry)) r ⌝ }
 {
     if levels == 0 {
-        return Align::Absent;
+        return 0;
     }
     let kind = row_kind(w, n);
     if among(kind, STRUCT_KIND, UNION_KIND, UNION_KIND) {
-        let best = strictest(m, w, d, members, n, levels - 1);
-        return Align::Known(or_one(best));
+        let best = strictest(pointer, most, w, d, members, n, levels - 1);
+        return at_least_one(best);
     }
     if among(kind, ARRAY_KIND, TYPEDEF_KIND, QUALIFIED_KIND) {
         let under = row_target(w, n);
-        return align_within(m, w, d, members, under, levels - 1);
+        return align_within(pointer, most, w, d, members, under, levels - 1);
     }
     let extent = row_extent(d, n);
-    own_align(m, kind, extent)
+    own_align(pointer, most, kind, extent)
 }
 
 // The largest alignment of a row's members: from its first entry on, as many as it has that carry it.
-fn strictest(m: Model, w: &[u32], d: &[u64], members: usize, n: u32, levels: u32) -> Align
-    ensures { λ r. ⌜ StrictestIs levels m members n (now (w .entry)) (now (d .entry)) r ⌝ }
+fn strictest(
+    pointer: u64,
+    most: u64,
+    w: &[u32],
+    d: &[u64],
+    members: usize,
+    n: u32,
+    levels: u32,
+) -> u64
+    ensures { λ r. ⌜ StrictestIs levels pointer most members n (now (w .entry)) (now (d .entry)) r ⌝ }
 {
     let mut i = row_first(w, n) as usize;
     let mut left = row_count(w, n);
-    let mut best = Align::Absent;
+    let mut best = 0;
     while i < members {
         if left == 0 {
             return best;
@@ -221,10 +249,15 @@ fn strictest(m: Model, w: &[u32], d: &[u64], members: usize, n: u32, levels: u32
             continue;
         }
         let ty = member_type(w, i);
-        let a = align_within(m, w, d, members, ty, levels);
-        best = larger(best, a);
         left = left - 1;
         i = i + 1;
+        let scalar = scalar_align(pointer, most, w, d, ty, levels);
+        if scalar != 0 {
+            best = larger(best, scalar);
+            continue;
+        }
+        let a = align_within(pointer, most, w, d, members, ty, levels);
+        best = larger(best, a);
     }
     best
 }
@@ -233,5 +266,11 @@ fn strictest(m: Model, w: &[u32], d: &[u64], members: usize, n: u32, levels: u32
 pub fn align_of(m: Model, w: &[u32], d: &[u64], members: usize, n: u32) -> Align
     ensures { λ r. ⌜ AlignIs alignLevels m members n (now (w .entry)) (now (d .entry)) r ⌝ }
 {
-    align_within(m, w, d, members, n, Model::ALIGN_LEVELS)
+    let most = at_least_one(m.max_align);
+    let pointer = capped(most, m.pointer);
+    let a = align_within(pointer, most, w, d, members, n, Model::ALIGN_LEVELS);
+    if a == 0 {
+        return Align::Absent;
+    }
+    Align::Known(a)
 }

@@ -8,9 +8,10 @@ use Rattle.sizes.proofs.strictest.Reads as strictest
 use Rattle.sizes.proofs.strictest.Kinds as strictest-kinds
 use Rattle.sizes.proofs.+align_within+strictest.Lts-strictest as strictest-lts
 use Rattle.sizes.proofs.among.Reads as among-reads
+use Rattle.sizes.proofs.at_least_one.Reads as at-least-one-reads
 use Rattle.sizes.proofs.larger.Reads as larger-reads
-use Rattle.sizes.proofs.or_one.Reads as or-one-reads
 use Rattle.sizes.proofs.own_align.Reads as own-align-reads
+use Rattle.sizes.proofs.scalar_align.Reads as scalar-align-reads
 use Rattle.table.proofs.member_row.Reads as member-row-reads
 use Rattle.table.proofs.member_type.Reads as member-type-reads
 use Rattle.table.proofs.row_count.Reads as row-count-reads
@@ -26,19 +27,20 @@ use mathlib.Core.Path.{_≡_, refl, sym, ap, _∙_}
 use mathlib.Core.Option.{some}
 use Prim.Native.Nat.{_+_, _-_, _*_}
 use lib.ListN.{length, drop}
+use Rattle.definition.specs.Model.{Model}
 use Rattle.definition.specs.Table.{Table, carrying}
 use Rattle.definition.specs.Align.{orOne, largest, alignWithin}
 use Rattle.table.specs.Held.{InWords}
-use Rattle.words.specs.Meaning.{model}
-use Rattle.sizes.specs.Measure.{align, Extents}
+use Rattle.sizes.specs.Measure.{meant, Caps, Extents}
 use Rattle.sizes.proofs.Sized.{extent-of, no-levels, composite-aligned, alias-aligned, own-aligned}
-use Rattle.sizes.proofs.Gathered.{Gathers, gathered, ended, skips, takes}
+use Rattle.sizes.proofs.Aligned.{absent, one-meant, larger-meant}
+use Rattle.sizes.proofs.Gathered.{Gathers, begins, gathered, ended, skips, takes}
 
 abbrev μ-align-within : Measures 2 align-within-kinds.ps ℕ
-μ-align-within κs a = 2 * (a .1 .1 .1 .1 .1 .0)
+μ-align-within κs a = 2 * (a .1 .1 .1 .1 .1 .1 .0)
 
 abbrev μ-strictest : Measures 2 strictest-kinds.ps ℕ
-μ-strictest κs a = 2 * (a .1 .1 .1 .1 .1 .0) + 1
+μ-strictest κs a = 2 * (a .1 .1 .1 .1 .1 .1 .0) + 1
 
 abbrev align-within-at : ℕ → In 2 align-within-kinds.ps
 align-within-at t =
@@ -66,8 +68,8 @@ align-within-returns : (t : ℕ) → align-within-lts.Need-returns (
   among-reads.Learnt,
   strictest-below t,
   strictest.Post,
-  or-one-reads.Asked,
-  or-one-reads.Learnt,
+  at-least-one-reads.Asked,
+  at-least-one-reads.Learnt,
   row-target-reads.Asked,
   row-target-reads.Learnt,
   align-within-below t,
@@ -77,7 +79,7 @@ align-within-returns : (t : ℕ) → align-within-lts.Need-returns (
   own-align-reads.Asked,
   own-align-reads.Learnt,
 ) (align-within-at t) align-within.Post
-align-within-returns t c = record { of = λ t₁ h g e. sym (no-levels _ t₁ _ _ (c .if1 .taken)) }
+align-within-returns t c = record { of = λ m p t₁ h g e. absent refl ∙ sym (no-levels m t₁ _ _ (c .if1 .taken)) }
 
 align-within-row-kind-requires : (t : ℕ) → align-within-lts.Need-row-kind-requires (
   row-kind-reads.Asked,
@@ -86,8 +88,8 @@ align-within-row-kind-requires : (t : ℕ) → align-within-lts.Need-row-kind-re
   among-reads.Learnt,
   strictest-below t,
   strictest.Post,
-  or-one-reads.Asked,
-  or-one-reads.Learnt,
+  at-least-one-reads.Asked,
+  at-least-one-reads.Learnt,
   row-target-reads.Asked,
   row-target-reads.Learnt,
   align-within-below t,
@@ -106,8 +108,8 @@ align-within-among-requires : (t : ℕ) → align-within-lts.Need-among-requires
   among-reads.Learnt,
   strictest-below t,
   strictest.Post,
-  or-one-reads.Asked,
-  or-one-reads.Learnt,
+  at-least-one-reads.Asked,
+  at-least-one-reads.Learnt,
   row-target-reads.Asked,
   row-target-reads.Learnt,
   align-within-below t,
@@ -126,8 +128,8 @@ align-within-sub-strictest : (t : ℕ) → align-within-lts.Need-sub-strictest (
   among-reads.Learnt,
   strictest-below t,
   strictest.Post,
-  or-one-reads.Asked,
-  or-one-reads.Learnt,
+  at-least-one-reads.Asked,
+  at-least-one-reads.Learnt,
   row-target-reads.Asked,
   row-target-reads.Learnt,
   align-within-below t,
@@ -146,8 +148,8 @@ align-within-strictest-requires : (t : ℕ) → align-within-lts.Need-strictest-
   among-reads.Learnt,
   strictest-below t,
   strictest.Post,
-  or-one-reads.Asked,
-  or-one-reads.Learnt,
+  at-least-one-reads.Asked,
+  at-least-one-reads.Learnt,
   row-target-reads.Asked,
   row-target-reads.Learnt,
   align-within-below t,
@@ -159,15 +161,15 @@ align-within-strictest-requires : (t : ℕ) → align-within-lts.Need-strictest-
 ) (align-within-at t) align-within.Post
 align-within-strictest-requires t c κs = (omega (arith, c .before .before .before .before .before .before .pre .0, c .before .before .before .if1 .left), tt)
 
-align-within-or-one-requires : (t : ℕ) → align-within-lts.Need-or-one-requires (
+align-within-at-least-one-requires : (t : ℕ) → align-within-lts.Need-at-least-one-requires (
   row-kind-reads.Asked,
   row-kind-reads.Learnt,
   among-reads.Asked,
   among-reads.Learnt,
   strictest-below t,
   strictest.Post,
-  or-one-reads.Asked,
-  or-one-reads.Learnt,
+  at-least-one-reads.Asked,
+  at-least-one-reads.Learnt,
   row-target-reads.Asked,
   row-target-reads.Learnt,
   align-within-below t,
@@ -177,7 +179,7 @@ align-within-or-one-requires : (t : ℕ) → align-within-lts.Need-or-one-requir
   own-align-reads.Asked,
   own-align-reads.Learnt,
 ) (align-within-at t) align-within.Post
-align-within-or-one-requires t c κs = search needs
+align-within-at-least-one-requires t c κs = search needs
 
 align-within-returns-2 : (t : ℕ) → align-within-lts.Need-returns-2 (
   row-kind-reads.Asked,
@@ -186,8 +188,8 @@ align-within-returns-2 : (t : ℕ) → align-within-lts.Need-returns-2 (
   among-reads.Learnt,
   strictest-below t,
   strictest.Post,
-  or-one-reads.Asked,
-  or-one-reads.Learnt,
+  at-least-one-reads.Asked,
+  at-least-one-reads.Learnt,
   row-target-reads.Asked,
   row-target-reads.Learnt,
   align-within-below t,
@@ -197,7 +199,7 @@ align-within-returns-2 : (t : ℕ) → align-within-lts.Need-returns-2 (
   own-align-reads.Asked,
   own-align-reads.Learnt,
 ) (align-within-at t) align-within.Post
-align-within-returns-2 t c = record { of = λ t₁ h g e. ap some (c .or-one .ensures ∙ ap orOne (c .before .strictest .ensures .of t₁ h g e)) ∙ sym (composite-aligned _ t₁ _ _ (c .before .before .before .before .before .if1 .left) (c .before .before .before .before .row-kind .ensures .of t₁ h) (sym (c .before .before .before .among .ensures) ∙ c .before .before .if2 .taken)) }
+align-within-returns-2 t c = record { of = λ m p t₁ h g e. one-meant _ (c .at-least-one .ensures) ∙ (ap (λ o. some (orOne o)) (c .before .strictest .ensures .of m p t₁ h g e) ∙ sym (composite-aligned m t₁ _ _ (c .before .before .before .before .before .if1 .left) (c .before .before .before .before .row-kind .ensures .of t₁ h) (sym (c .before .before .before .among .ensures) ∙ c .before .before .if2 .taken))) }
 
 align-within-among-requires-2 : (t : ℕ) → align-within-lts.Need-among-requires-2 (
   row-kind-reads.Asked,
@@ -206,8 +208,8 @@ align-within-among-requires-2 : (t : ℕ) → align-within-lts.Need-among-requir
   among-reads.Learnt,
   strictest-below t,
   strictest.Post,
-  or-one-reads.Asked,
-  or-one-reads.Learnt,
+  at-least-one-reads.Asked,
+  at-least-one-reads.Learnt,
   row-target-reads.Asked,
   row-target-reads.Learnt,
   align-within-below t,
@@ -226,8 +228,8 @@ align-within-row-target-requires : (t : ℕ) → align-within-lts.Need-row-targe
   among-reads.Learnt,
   strictest-below t,
   strictest.Post,
-  or-one-reads.Asked,
-  or-one-reads.Learnt,
+  at-least-one-reads.Asked,
+  at-least-one-reads.Learnt,
   row-target-reads.Asked,
   row-target-reads.Learnt,
   align-within-below t,
@@ -246,8 +248,8 @@ align-within-sub-align-within : (t : ℕ) → align-within-lts.Need-sub-align-wi
   among-reads.Learnt,
   strictest-below t,
   strictest.Post,
-  or-one-reads.Asked,
-  or-one-reads.Learnt,
+  at-least-one-reads.Asked,
+  at-least-one-reads.Learnt,
   row-target-reads.Asked,
   row-target-reads.Learnt,
   align-within-below t,
@@ -266,8 +268,8 @@ align-within-align-within-requires : (t : ℕ) → align-within-lts.Need-align-w
   among-reads.Learnt,
   strictest-below t,
   strictest.Post,
-  or-one-reads.Asked,
-  or-one-reads.Learnt,
+  at-least-one-reads.Asked,
+  at-least-one-reads.Learnt,
   row-target-reads.Asked,
   row-target-reads.Learnt,
   align-within-below t,
@@ -286,8 +288,8 @@ align-within-returns-3 : (t : ℕ) → align-within-lts.Need-returns-3 (
   among-reads.Learnt,
   strictest-below t,
   strictest.Post,
-  or-one-reads.Asked,
-  or-one-reads.Learnt,
+  at-least-one-reads.Asked,
+  at-least-one-reads.Learnt,
   row-target-reads.Asked,
   row-target-reads.Learnt,
   align-within-below t,
@@ -297,7 +299,7 @@ align-within-returns-3 : (t : ℕ) → align-within-lts.Need-returns-3 (
   own-align-reads.Asked,
   own-align-reads.Learnt,
 ) (align-within-at t) align-within.Post
-align-within-returns-3 t c = record { of = λ t₁ h g e. c .align-within .ensures .of t₁ h g e ∙ sym (alias-aligned _ t₁ _ _ (c .before .before .before .before .before .before .before .if1 .left) (c .before .before .before .before .before .before .row-kind .ensures .of t₁ h) (sym (c .before .before .before .before .before .among .ensures) ∙ c .before .before .before .before .if2 .left) (c .before .row-target .ensures .of t₁ h) (sym (c .before .before .before .among2 .ensures) ∙ c .before .before .if3 .taken)) }
+align-within-returns-3 t c = record { of = λ m p t₁ h g e. c .align-within .ensures .of m p t₁ h g e ∙ sym (alias-aligned m t₁ _ _ (c .before .before .before .before .before .before .before .if1 .left) (c .before .before .before .before .before .before .row-kind .ensures .of t₁ h) (sym (c .before .before .before .before .before .among .ensures) ∙ c .before .before .before .before .if2 .left) (c .before .row-target .ensures .of t₁ h) (sym (c .before .before .before .among2 .ensures) ∙ c .before .before .if3 .taken)) }
 
 align-within-row-extent-requires : (t : ℕ) → align-within-lts.Need-row-extent-requires (
   row-kind-reads.Asked,
@@ -306,8 +308,8 @@ align-within-row-extent-requires : (t : ℕ) → align-within-lts.Need-row-exten
   among-reads.Learnt,
   strictest-below t,
   strictest.Post,
-  or-one-reads.Asked,
-  or-one-reads.Learnt,
+  at-least-one-reads.Asked,
+  at-least-one-reads.Learnt,
   row-target-reads.Asked,
   row-target-reads.Learnt,
   align-within-below t,
@@ -326,8 +328,8 @@ align-within-own-align-requires : (t : ℕ) → align-within-lts.Need-own-align-
   among-reads.Learnt,
   strictest-below t,
   strictest.Post,
-  or-one-reads.Asked,
-  or-one-reads.Learnt,
+  at-least-one-reads.Asked,
+  at-least-one-reads.Learnt,
   row-target-reads.Asked,
   row-target-reads.Learnt,
   align-within-below t,
@@ -346,8 +348,8 @@ align-within-returns-4 : (t : ℕ) → align-within-lts.Need-returns-4 (
   among-reads.Learnt,
   strictest-below t,
   strictest.Post,
-  or-one-reads.Asked,
-  or-one-reads.Learnt,
+  at-least-one-reads.Asked,
+  at-least-one-reads.Learnt,
   row-target-reads.Asked,
   row-target-reads.Learnt,
   align-within-below t,
@@ -357,14 +359,14 @@ align-within-returns-4 : (t : ℕ) → align-within-lts.Need-returns-4 (
   own-align-reads.Asked,
   own-align-reads.Learnt,
 ) (align-within-at t) align-within.Post
-align-within-returns-4 t c = record { of = λ t₁ h g e. c .own-align .ensures ∙ sym (own-aligned _ t₁ _ _ (c .before .before .before .before .before .before .before .if1 .left) (c .before .before .before .before .before .before .row-kind .ensures .of t₁ h) (sym (c .before .before .before .before .before .among .ensures) ∙ c .before .before .before .before .if2 .left) (extent-of _ (c .before .row-extent .ensures) g) (sym (c .before .before .before .among2 .ensures) ∙ c .before .before .if3 .left)) }
+align-within-returns-4 t c = record { of = λ m p t₁ h g e. c .own-align .ensures .of m p ∙ sym (own-aligned m t₁ _ _ (c .before .before .before .before .before .before .before .if1 .left) (c .before .before .before .before .before .before .row-kind .ensures .of t₁ h) (sym (c .before .before .before .before .before .among .ensures) ∙ c .before .before .before .before .if2 .left) (extent-of _ (c .before .row-extent .ensures) g) (sym (c .before .before .before .among2 .ensures) ∙ c .before .before .if3 .left)) }
 
 abbrev strictest-Inv-loop : strictest-lts.InvT-loop
-strictest-Inv-loop m w d members n levels i₀ left₀ best₀ i left best = (t : Table) → InWords t w → Extents t d → members ≡ length (t .members)
-    → Gathers (λ k. alignWithin levels (model m) t k) n (t .members) i left (align best) (largest (λ k. alignWithin levels (model m) t k) (carrying (λ x. x .row) n left₀ (drop i₀ (t .members))))
+strictest-Inv-loop pointer most w d members n levels i₀ left₀ best₀ i left best = (m : Model) → Caps m pointer most → (t : Table) → InWords t w → Extents t d → members ≡ length (t .members)
+    → Gathers (λ k. alignWithin levels m t k) n (t .members) i left (meant best) (largest (λ k. alignWithin levels m t k) (carrying (λ x. x .row) n left₀ (drop i₀ (t .members))))
 
 abbrev strictest-μ-loop : strictest-lts.MeasureT-loop
-strictest-μ-loop m w d members n levels i₀ left₀ best₀ i left best = members - i
+strictest-μ-loop pointer most w d members n levels i₀ left₀ best₀ i left best = members - i
 
 strictest-row-first-requires : (t : ℕ) → strictest-lts.Need-row-first-requires (
   row-first-reads.Asked,
@@ -375,10 +377,12 @@ strictest-row-first-requires : (t : ℕ) → strictest-lts.Need-row-first-requir
   member-row-reads.Learnt,
   member-type-reads.Asked,
   member-type-reads.Learnt,
-  align-within-below t,
-  align-within.Post,
+  scalar-align-reads.Asked,
+  scalar-align-reads.Learnt,
   larger-reads.Asked,
   larger-reads.Learnt,
+  align-within-below t,
+  align-within.Post,
 ) (strictest-at t) strictest.Post strictest-Inv-loop strictest-μ-loop
 strictest-row-first-requires t c κs = search needs
 
@@ -391,10 +395,12 @@ strictest-cast-i : (t : ℕ) → strictest-lts.Need-cast-i (
   member-row-reads.Learnt,
   member-type-reads.Asked,
   member-type-reads.Learnt,
-  align-within-below t,
-  align-within.Post,
+  scalar-align-reads.Asked,
+  scalar-align-reads.Learnt,
   larger-reads.Asked,
   larger-reads.Learnt,
+  align-within-below t,
+  align-within.Post,
 ) (strictest-at t) strictest.Post strictest-Inv-loop strictest-μ-loop
 strictest-cast-i t c = search needs
 
@@ -407,10 +413,12 @@ strictest-row-count-requires : (t : ℕ) → strictest-lts.Need-row-count-requir
   member-row-reads.Learnt,
   member-type-reads.Asked,
   member-type-reads.Learnt,
-  align-within-below t,
-  align-within.Post,
+  scalar-align-reads.Asked,
+  scalar-align-reads.Learnt,
   larger-reads.Asked,
   larger-reads.Learnt,
+  align-within-below t,
+  align-within.Post,
 ) (strictest-at t) strictest.Post strictest-Inv-loop strictest-μ-loop
 strictest-row-count-requires t c κs = search needs
 
@@ -423,12 +431,14 @@ strictest-loop-holds : (t : ℕ) → strictest-lts.Need-loop-holds (
   member-row-reads.Learnt,
   member-type-reads.Asked,
   member-type-reads.Learnt,
-  align-within-below t,
-  align-within.Post,
+  scalar-align-reads.Asked,
+  scalar-align-reads.Learnt,
   larger-reads.Asked,
   larger-reads.Learnt,
+  align-within-below t,
+  align-within.Post,
 ) (strictest-at t) strictest.Post strictest-Inv-loop strictest-μ-loop
-strictest-loop-holds t c = λ t₁ h g e. record { same = refl }
+strictest-loop-holds t c = λ m p t₁ h g e. begins (absent refl)
 
 strictest-returns : (t : ℕ) → strictest-lts.Need-returns (
   row-first-reads.Asked,
@@ -439,12 +449,14 @@ strictest-returns : (t : ℕ) → strictest-lts.Need-returns (
   member-row-reads.Learnt,
   member-type-reads.Asked,
   member-type-reads.Learnt,
-  align-within-below t,
-  align-within.Post,
+  scalar-align-reads.Asked,
+  scalar-align-reads.Learnt,
   larger-reads.Asked,
   larger-reads.Learnt,
+  align-within-below t,
+  align-within.Post,
 ) (strictest-at t) strictest.Post strictest-Inv-loop strictest-μ-loop
-strictest-returns t c = record { of = λ t₁ h g e. gathered (c .before .before .loop .inv t₁ h g e) (c .if1 .taken) ∙ rw (c .before .before .before .before .row-first .ensures .of t₁ h, c .before .before .before .row-count .ensures .of t₁ h) }
+strictest-returns t c = record { of = λ m p t₁ h g e. gathered (c .before .before .loop .inv m p t₁ h g e) (c .if1 .taken) ∙ rw (c .before .before .before .before .row-first .ensures .of t₁ h, c .before .before .before .row-count .ensures .of t₁ h) }
 
 strictest-member-row-requires : (t : ℕ) → strictest-lts.Need-member-row-requires (
   row-first-reads.Asked,
@@ -455,10 +467,12 @@ strictest-member-row-requires : (t : ℕ) → strictest-lts.Need-member-row-requ
   member-row-reads.Learnt,
   member-type-reads.Asked,
   member-type-reads.Learnt,
-  align-within-below t,
-  align-within.Post,
+  scalar-align-reads.Asked,
+  scalar-align-reads.Learnt,
   larger-reads.Asked,
   larger-reads.Learnt,
+  align-within-below t,
+  align-within.Post,
 ) (strictest-at t) strictest.Post strictest-Inv-loop strictest-μ-loop
 strictest-member-row-requires t c κs = search needs
 
@@ -471,10 +485,12 @@ strictest-add-i : (t : ℕ) → strictest-lts.Need-add-i (
   member-row-reads.Learnt,
   member-type-reads.Asked,
   member-type-reads.Learnt,
-  align-within-below t,
-  align-within.Post,
+  scalar-align-reads.Asked,
+  scalar-align-reads.Learnt,
   larger-reads.Asked,
   larger-reads.Learnt,
+  align-within-below t,
+  align-within.Post,
 ) (strictest-at t) strictest.Post strictest-Inv-loop strictest-μ-loop
 strictest-add-i t c = search needs
 
@@ -487,10 +503,12 @@ strictest-loop-less : (t : ℕ) → strictest-lts.Need-loop-less (
   member-row-reads.Learnt,
   member-type-reads.Asked,
   member-type-reads.Learnt,
-  align-within-below t,
-  align-within.Post,
+  scalar-align-reads.Asked,
+  scalar-align-reads.Learnt,
   larger-reads.Asked,
   larger-reads.Learnt,
+  align-within-below t,
+  align-within.Post,
 ) (strictest-at t) strictest.Post strictest-Inv-loop strictest-μ-loop
 strictest-loop-less t c = search needs
 
@@ -503,12 +521,14 @@ strictest-loop-again : (t : ℕ) → strictest-lts.Need-loop-again (
   member-row-reads.Learnt,
   member-type-reads.Asked,
   member-type-reads.Learnt,
-  align-within-below t,
-  align-within.Post,
+  scalar-align-reads.Asked,
+  scalar-align-reads.Learnt,
   larger-reads.Asked,
   larger-reads.Learnt,
+  align-within-below t,
+  align-within.Post,
 ) (strictest-at t) strictest.Post strictest-Inv-loop strictest-μ-loop
-strictest-loop-again t c = λ t₁ h g e. skips (c .before .before .before .before .loop .inv t₁ h g e) (omega (arith, c .before .before .before .loop-test .taken, e)) (c .before .member-row .ensures .of t₁ h) (c .if2 .taken)
+strictest-loop-again t c = λ m p t₁ h g e. skips (c .before .before .before .before .loop .inv m p t₁ h g e) (omega (arith, c .before .before .before .loop-test .taken, e)) (c .before .member-row .ensures .of t₁ h) (c .if2 .taken)
 
 strictest-member-type-requires : (t : ℕ) → strictest-lts.Need-member-type-requires (
   row-first-reads.Asked,
@@ -519,44 +539,14 @@ strictest-member-type-requires : (t : ℕ) → strictest-lts.Need-member-type-re
   member-row-reads.Learnt,
   member-type-reads.Asked,
   member-type-reads.Learnt,
-  align-within-below t,
-  align-within.Post,
+  scalar-align-reads.Asked,
+  scalar-align-reads.Learnt,
   larger-reads.Asked,
   larger-reads.Learnt,
+  align-within-below t,
+  align-within.Post,
 ) (strictest-at t) strictest.Post strictest-Inv-loop strictest-μ-loop
 strictest-member-type-requires t c κs = search needs
-
-strictest-align-within-requires : (t : ℕ) → strictest-lts.Need-align-within-requires (
-  row-first-reads.Asked,
-  row-first-reads.Learnt,
-  row-count-reads.Asked,
-  row-count-reads.Learnt,
-  member-row-reads.Asked,
-  member-row-reads.Learnt,
-  member-type-reads.Asked,
-  member-type-reads.Learnt,
-  align-within-below t,
-  align-within.Post,
-  larger-reads.Asked,
-  larger-reads.Learnt,
-) (strictest-at t) strictest.Post strictest-Inv-loop strictest-μ-loop
-strictest-align-within-requires t c κs = (omega (arith, c .before .before .before .before .before .before .before .before .before .before .pre .0), tt)
-
-strictest-larger-requires : (t : ℕ) → strictest-lts.Need-larger-requires (
-  row-first-reads.Asked,
-  row-first-reads.Learnt,
-  row-count-reads.Asked,
-  row-count-reads.Learnt,
-  member-row-reads.Asked,
-  member-row-reads.Learnt,
-  member-type-reads.Asked,
-  member-type-reads.Learnt,
-  align-within-below t,
-  align-within.Post,
-  larger-reads.Asked,
-  larger-reads.Learnt,
-) (strictest-at t) strictest.Post strictest-Inv-loop strictest-μ-loop
-strictest-larger-requires t c κs = search needs
 
 strictest-sub-left : (t : ℕ) → strictest-lts.Need-sub-left (
   row-first-reads.Asked,
@@ -567,12 +557,14 @@ strictest-sub-left : (t : ℕ) → strictest-lts.Need-sub-left (
   member-row-reads.Learnt,
   member-type-reads.Asked,
   member-type-reads.Learnt,
-  align-within-below t,
-  align-within.Post,
+  scalar-align-reads.Asked,
+  scalar-align-reads.Learnt,
   larger-reads.Asked,
   larger-reads.Learnt,
+  align-within-below t,
+  align-within.Post,
 ) (strictest-at t) strictest.Post strictest-Inv-loop strictest-μ-loop
-strictest-sub-left t c = omega (arith, c .before .before .before .before .before .if1 .left)
+strictest-sub-left t c = omega (arith, c .before .before .before .if1 .left)
 
 strictest-add-i-2 : (t : ℕ) → strictest-lts.Need-add-i-2 (
   row-first-reads.Asked,
@@ -583,12 +575,50 @@ strictest-add-i-2 : (t : ℕ) → strictest-lts.Need-add-i-2 (
   member-row-reads.Learnt,
   member-type-reads.Asked,
   member-type-reads.Learnt,
-  align-within-below t,
-  align-within.Post,
+  scalar-align-reads.Asked,
+  scalar-align-reads.Learnt,
   larger-reads.Asked,
   larger-reads.Learnt,
+  align-within-below t,
+  align-within.Post,
 ) (strictest-at t) strictest.Post strictest-Inv-loop strictest-μ-loop
-strictest-add-i-2 t c = omega (arith, c .before .before .before .before .before .before .loop-test .taken, c .before .before .before .before .before .before .before .before .before .before .before .before .good)
+strictest-add-i-2 t c = omega (arith, c .before .before .before .before .loop-test .taken, c .before .before .before .before .before .before .before .before .before .before .good)
+
+strictest-scalar-align-requires : (t : ℕ) → strictest-lts.Need-scalar-align-requires (
+  row-first-reads.Asked,
+  row-first-reads.Learnt,
+  row-count-reads.Asked,
+  row-count-reads.Learnt,
+  member-row-reads.Asked,
+  member-row-reads.Learnt,
+  member-type-reads.Asked,
+  member-type-reads.Learnt,
+  scalar-align-reads.Asked,
+  scalar-align-reads.Learnt,
+  larger-reads.Asked,
+  larger-reads.Learnt,
+  align-within-below t,
+  align-within.Post,
+) (strictest-at t) strictest.Post strictest-Inv-loop strictest-μ-loop
+strictest-scalar-align-requires t c κs = search needs
+
+strictest-larger-requires : (t : ℕ) → strictest-lts.Need-larger-requires (
+  row-first-reads.Asked,
+  row-first-reads.Learnt,
+  row-count-reads.Asked,
+  row-count-reads.Learnt,
+  member-row-reads.Asked,
+  member-row-reads.Learnt,
+  member-type-reads.Asked,
+  member-type-reads.Learnt,
+  scalar-align-reads.Asked,
+  scalar-align-reads.Learnt,
+  larger-reads.Asked,
+  larger-reads.Learnt,
+  align-within-below t,
+  align-within.Post,
+) (strictest-at t) strictest.Post strictest-Inv-loop strictest-μ-loop
+strictest-larger-requires t c κs = search needs
 
 strictest-loop-less-2 : (t : ℕ) → strictest-lts.Need-loop-less-2 (
   row-first-reads.Asked,
@@ -599,12 +629,14 @@ strictest-loop-less-2 : (t : ℕ) → strictest-lts.Need-loop-less-2 (
   member-row-reads.Learnt,
   member-type-reads.Asked,
   member-type-reads.Learnt,
-  align-within-below t,
-  align-within.Post,
+  scalar-align-reads.Asked,
+  scalar-align-reads.Learnt,
   larger-reads.Asked,
   larger-reads.Learnt,
+  align-within-below t,
+  align-within.Post,
 ) (strictest-at t) strictest.Post strictest-Inv-loop strictest-μ-loop
-strictest-loop-less-2 t c = omega (arith, c .before .before .before .before .before .before .loop-test .taken)
+strictest-loop-less-2 t c = omega (arith, c .before .before .before .before .before .before .before .loop-test .taken)
 
 strictest-loop-again-2 : (t : ℕ) → strictest-lts.Need-loop-again-2 (
   row-first-reads.Asked,
@@ -615,12 +647,86 @@ strictest-loop-again-2 : (t : ℕ) → strictest-lts.Need-loop-again-2 (
   member-row-reads.Learnt,
   member-type-reads.Asked,
   member-type-reads.Learnt,
-  align-within-below t,
-  align-within.Post,
+  scalar-align-reads.Asked,
+  scalar-align-reads.Learnt,
   larger-reads.Asked,
   larger-reads.Learnt,
+  align-within-below t,
+  align-within.Post,
 ) (strictest-at t) strictest.Post strictest-Inv-loop strictest-μ-loop
-strictest-loop-again-2 t c = λ t₁ h g e. takes (c .before .before .before .before .before .before .before .loop .inv t₁ h g e) (omega (arith, c .before .before .before .before .before .before .loop-test .taken, e)) (c .before .before .before .before .member-row .ensures .of t₁ h) (c .before .before .before .if2 .left) (c .before .before .before .before .before .if1 .left) (c .before .before .member-type .ensures .of t₁ h) (c .before .align-within .ensures .of t₁ h g e) (c .larger .ensures)
+strictest-loop-again-2 t c = λ m p t₁ h g e. takes (c .before .before .before .before .before .before .before .before .loop .inv m p t₁ h g e) (omega (arith, c .before .before .before .before .before .before .before .loop-test .taken, e)) (c .before .before .before .before .before .member-row .ensures .of t₁ h) (c .before .before .before .before .if2 .left) (c .before .before .before .before .before .before .if1 .left) (c .before .before .before .member-type .ensures .of t₁ h) (c .before .before .scalar-align .ensures .of m p t₁ h g (c .before .if3 .taken)) (ap meant (c .larger .ensures) ∙ larger-meant _ _)
+
+strictest-align-within-requires : (t : ℕ) → strictest-lts.Need-align-within-requires (
+  row-first-reads.Asked,
+  row-first-reads.Learnt,
+  row-count-reads.Asked,
+  row-count-reads.Learnt,
+  member-row-reads.Asked,
+  member-row-reads.Learnt,
+  member-type-reads.Asked,
+  member-type-reads.Learnt,
+  scalar-align-reads.Asked,
+  scalar-align-reads.Learnt,
+  larger-reads.Asked,
+  larger-reads.Learnt,
+  align-within-below t,
+  align-within.Post,
+) (strictest-at t) strictest.Post strictest-Inv-loop strictest-μ-loop
+strictest-align-within-requires t c κs = (omega (arith, c .before .before .before .before .before .before .before .before .before .before .before .before .pre .0), tt)
+
+strictest-larger-requires-2 : (t : ℕ) → strictest-lts.Need-larger-requires-2 (
+  row-first-reads.Asked,
+  row-first-reads.Learnt,
+  row-count-reads.Asked,
+  row-count-reads.Learnt,
+  member-row-reads.Asked,
+  member-row-reads.Learnt,
+  member-type-reads.Asked,
+  member-type-reads.Learnt,
+  scalar-align-reads.Asked,
+  scalar-align-reads.Learnt,
+  larger-reads.Asked,
+  larger-reads.Learnt,
+  align-within-below t,
+  align-within.Post,
+) (strictest-at t) strictest.Post strictest-Inv-loop strictest-μ-loop
+strictest-larger-requires-2 t c κs = search needs
+
+strictest-loop-less-3 : (t : ℕ) → strictest-lts.Need-loop-less-3 (
+  row-first-reads.Asked,
+  row-first-reads.Learnt,
+  row-count-reads.Asked,
+  row-count-reads.Learnt,
+  member-row-reads.Asked,
+  member-row-reads.Learnt,
+  member-type-reads.Asked,
+  member-type-reads.Learnt,
+  scalar-align-reads.Asked,
+  scalar-align-reads.Learnt,
+  larger-reads.Asked,
+  larger-reads.Learnt,
+  align-within-below t,
+  align-within.Post,
+) (strictest-at t) strictest.Post strictest-Inv-loop strictest-μ-loop
+strictest-loop-less-3 t c = omega (arith, c .before .before .before .before .before .before .before .before .loop-test .taken)
+
+strictest-loop-again-3 : (t : ℕ) → strictest-lts.Need-loop-again-3 (
+  row-first-reads.Asked,
+  row-first-reads.Learnt,
+  row-count-reads.Asked,
+  row-count-reads.Learnt,
+  member-row-reads.Asked,
+  member-row-reads.Learnt,
+  member-type-reads.Asked,
+  member-type-reads.Learnt,
+  scalar-align-reads.Asked,
+  scalar-align-reads.Learnt,
+  larger-reads.Asked,
+  larger-reads.Learnt,
+  align-within-below t,
+  align-within.Post,
+) (strictest-at t) strictest.Post strictest-Inv-loop strictest-μ-loop
+strictest-loop-again-3 t c = λ m p t₁ h g e. takes (c .before .before .before .before .before .before .before .before .before .loop .inv m p t₁ h g e) (omega (arith, c .before .before .before .before .before .before .before .before .loop-test .taken, e)) (c .before .before .before .before .before .before .member-row .ensures .of t₁ h) (c .before .before .before .before .before .if2 .left) (c .before .before .before .before .before .before .before .if1 .left) (c .before .before .before .before .member-type .ensures .of t₁ h) (c .before .align-within .ensures .of m p t₁ h g e) (ap meant (c .larger2 .ensures) ∙ larger-meant _ _)
 
 strictest-returns-2 : (t : ℕ) → strictest-lts.Need-returns-2 (
   row-first-reads.Asked,
@@ -631,12 +737,14 @@ strictest-returns-2 : (t : ℕ) → strictest-lts.Need-returns-2 (
   member-row-reads.Learnt,
   member-type-reads.Asked,
   member-type-reads.Learnt,
-  align-within-below t,
-  align-within.Post,
+  scalar-align-reads.Asked,
+  scalar-align-reads.Learnt,
   larger-reads.Asked,
   larger-reads.Learnt,
+  align-within-below t,
+  align-within.Post,
 ) (strictest-at t) strictest.Post strictest-Inv-loop strictest-μ-loop
-strictest-returns-2 t c = record { of = λ t₁ h g e. ended (c .before .loop .inv t₁ h g e) (omega (arith, c .loop-test .left, e)) ∙ rw (c .before .before .before .row-first .ensures .of t₁ h, c .before .before .row-count .ensures .of t₁ h) }
+strictest-returns-2 t c = record { of = λ m p t₁ h g e. ended (c .before .loop .inv m p t₁ h g e) (omega (arith, c .loop-test .left, e)) ∙ rw (c .before .before .before .row-first .ensures .of t₁ h, c .before .before .row-count .ensures .of t₁ h) }
 
 pub +align-within+strictest-spec : {M : Type 1} → statement M
 +align-within+strictest-spec = close μ-align-within μ-strictest (λ t. align-within-lts.spec (
@@ -646,8 +754,8 @@ pub +align-within+strictest-spec : {M : Type 1} → statement M
   among-reads.Learnt,
   strictest-below t,
   strictest.Post,
-  or-one-reads.Asked,
-  or-one-reads.Learnt,
+  at-least-one-reads.Asked,
+  at-least-one-reads.Learnt,
   row-target-reads.Asked,
   row-target-reads.Learnt,
   align-within-below t,
@@ -664,7 +772,7 @@ pub +align-within+strictest-spec : {M : Type 1} → statement M
     (align-within-among-requires t)
     (align-within-sub-strictest t)
     (align-within-strictest-requires t)
-    (align-within-or-one-requires t)
+    (align-within-at-least-one-requires t)
     (align-within-returns-2 t)
     (align-within-among-requires-2 t)
     (align-within-row-target-requires t)
@@ -683,10 +791,12 @@ pub +align-within+strictest-spec : {M : Type 1} → statement M
       member-row-reads.Learnt,
       member-type-reads.Asked,
       member-type-reads.Learnt,
-      align-within-below t,
-      align-within.Post,
+      scalar-align-reads.Asked,
+      scalar-align-reads.Learnt,
       larger-reads.Asked,
       larger-reads.Learnt,
+      align-within-below t,
+      align-within.Post,
     )
     (strictest-at t)
     strictest.Post
@@ -702,10 +812,14 @@ pub +align-within+strictest-spec : {M : Type 1} → statement M
     (strictest-loop-less t)
     (strictest-loop-again t)
     (strictest-member-type-requires t)
-    (strictest-align-within-requires t)
-    (strictest-larger-requires t)
     (strictest-sub-left t)
     (strictest-add-i-2 t)
+    (strictest-scalar-align-requires t)
+    (strictest-larger-requires t)
     (strictest-loop-less-2 t)
     (strictest-loop-again-2 t)
+    (strictest-align-within-requires t)
+    (strictest-larger-requires-2 t)
+    (strictest-loop-less-3 t)
+    (strictest-loop-again-3 t)
     (strictest-returns-2 t)
