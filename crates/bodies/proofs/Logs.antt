@@ -8,18 +8,20 @@ use Rattle.definition.specs.Row.{Span}
 use Rattle.definition.specs.Table.{Table, Event, logged}
 use Rattle.definition.specs.Composite.{Body, defineBody}
 use Rattle.definition.specs.Enumeration.{defineEnum}
-use Rattle.definition.specs.Lent.{words, tableWords, wides, signeds}
+use Rattle.definition.specs.Lent.{tableWords, wides, signeds}
 use Rattle.table.specs.Held.{state, readingWords, Fits, Encodes}
 use Rattle.table.specs.declared.Cursor.{Cursor}
 use Rattle.bodies.specs.Bodies.{bodyDefined, enumDefined}
 
 pub logged-on : {t : Table} {c : Cursor} {w d : List ℕ} {v : List ℤ} (e : Event) → Encodes t c w d v → Encodes (logged t e) c w d v
-unfolding readingWords words tableWords wides signeds
+unfolding readingWords tableWords wides signeds
 logged-on {t} e h =
     let f : Fits (logged t e) = record { rows = h .words .fits .rows; members = h .words .fits .members; values = h .words .fits .values; parameters = h .words .fits .parameters; declarations = h .words .fits .declarations } in
     record {
       counts = record { rows = h .counts .rows; members = h .counts .members; values = h .counts .values; parameters = h .counts .parameters; declarations = h .counts .declarations };
-      words = record { fits = f; are = h .words .are };
+      words = record { fits = f; rest = h .words .rest; long = h .words .long; are = h .words .are };
+      index = h .index;
+      marks = h .marks;
       wides = record { fits = f; are = h .wides .are };
       signeds = record { fits = f; are = h .signeds .are };
     }

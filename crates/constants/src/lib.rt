@@ -1,6 +1,7 @@
 // Constant expressions over the columns of tokens and the enumerators found so far, equal to the definition of the same names.
 use arithmetic::Number;
 use table::Cursor;
+use table::INDEX_AT;
 use table::VALUE_WORDS;
 use table::VALUES_AT;
 use table::kind_at;
@@ -13,7 +14,7 @@ ghost use Rattle.definition.specs.Constant.{level, constant};
 ghost use Rattle.table.specs.Held.{Room};
 ghost use Rattle.table.specs.Reply.{Peek};
 ghost use Rattle.constants.specs.Here.{Evaluates};
-ghost use Rattle.constants.specs.Lookup.{lastValue, found};
+ghost use Rattle.constants.specs.Lookup.{boundIn, capped, knownValue, found};
 ghost use Rattle.constants.specs.Reading.{read, tokens, Settles, ReadsPrimary};
 
 // Kinds of tokens.
@@ -41,6 +42,11 @@ const MISSING_MARK: u32 = 10;
 const DIVISION_BY_ZERO: u32 = 22;
 
 const NO_CONSTANT: u32 = 23;
+
+// Names that a table can have, and those that have numbers of their own in its index.
+const MAX_NAMES: u64 = 16384;
+
+const INDEXED: u64 = 16381;
 
 // Depths 0 to 64.
 const DEPTHS: u32 = 65;
@@ -109,11 +115,32 @@ fn wide(x: u32) -> u64
     x as u64
 }
 
+// The bound that the index has for the enumerators of a name.
+fn bound_of(words: &[u32], name: u64) -> u32
+    ensures { λ r. ⌜ r ≡ boundIn (now (words .entry)) name ⌝ }
+{
+    kind_at(
+        words,
+        INDEX_AT + 2 * ((name / 2 % MAX_NAMES % INDEXED) as usize),
+    )
+}
+
+// So many, and not more than the bound.
+fn cap(count: u32, bound: u32) -> u32
+    ensures { λ r. ⌜ r ≡ capped count bound ⌝ }
+{
+    if count <= bound {
+        return count;
+    }
+    bound
+}
+
 // The value of the last of `count` enumerators that has a name.
 pub fn value_of(words: &[u32], values: &[i64], count: u32, name: u64) -> Found
-    ensures { λ r. ⌜ found r ≡ lastValue (now (words .entry)) (now (values .entry)) count name ⌝ }
+    ensures { λ r. ⌜ found r ≡ knownValue (now (words .entry)) (now (values .entry)) count name ⌝ }
 {
-    let mut k = count as usize;
+    let from = cap(count, bound_of(words, name));
+    let mut k = from as usize;
     while 0 < k {
         k = k - 1;
         if wide(kind_at(words, VALUES_AT + VALUE_WORDS * k + NAME_COLUMN)) == name {
@@ -143,7 +170,7 @@ pub fn primary_value(
     count: u32,
     c: Place,
 ) -> Reading
-    ensures { λ r. ⌜ ReadsPrimary (tokens (now (kinds .entry)) (now (numbers .entry))) (lastValue (now (words .entry)) (now (values .entry)) count) (c .at) r ⌝ }
+    ensures { λ r. ⌜ ReadsPrimary (tokens (now (kinds .entry)) (now (numbers .entry))) (knownValue (now (words .entry)) (now (values .entry)) count) (c .at) r ⌝ }
 {
     let at = c.at;
     let k = c.kind(kinds);
@@ -173,7 +200,7 @@ pub fn unary(
     c: Place,
     room: u32,
 ) -> Reading
-    ensures { λ r. ⌜ read r ≡ level (tokens (now (kinds .entry)) (now (numbers .entry))) (lastValue (now (words .entry)) (now (values .entry)) count) room .operand (c .at) ⌝ }
+    ensures { λ r. ⌜ read r ≡ level (tokens (now (kinds .entry)) (now (numbers .entry))) (knownValue (now (words .entry)) (now (values .entry)) count) room .operand (c .at) ⌝ }
 {
     let at = c.at;
     if room == 0 {
@@ -212,7 +239,7 @@ pub fn binary(
     low: u32,
     room: u32,
 ) -> Reading
-    ensures { λ r. ⌜ read r ≡ level (tokens (now (kinds .entry)) (now (numbers .entry))) (lastValue (now (words .entry)) (now (values .entry)) count) room .chain low (c .at) ⌝ }
+    ensures { λ r. ⌜ read r ≡ level (tokens (now (kinds .entry)) (now (numbers .entry))) (knownValue (now (words .entry)) (now (values .entry)) count) room .chain low (c .at) ⌝ }
 {
     if room == 0 {
         return Reading::Refused(TOO_DEEP, c.at);
@@ -252,7 +279,7 @@ pub fn conditional(
     c: Place,
     room: u32,
 ) -> Reading
-    ensures { λ r. ⌜ read r ≡ level (tokens (now (kinds .entry)) (now (numbers .entry))) (lastValue (now (words .entry)) (now (values .entry)) count) room .condition (c .at) ⌝ }
+    ensures { λ r. ⌜ read r ≡ level (tokens (now (kinds .entry)) (now (numbers .entry))) (knownValue (now (words .entry)) (now (values .entry)) count) room .condition (c .at) ⌝ }
 {
     if room == 0 {
         return Reading::Refused(TOO_DEEP, c.at);
@@ -291,7 +318,7 @@ pub fn constant_at(
     count: u32,
     c: Place,
 ) -> Reading
-    ensures { λ r. ⌜ read r ≡ constant (tokens (now (kinds .entry)) (now (numbers .entry))) (lastValue (now (words .entry)) (now (values .entry)) count) (c .at) ⌝ }
+    ensures { λ r. ⌜ read r ≡ constant (tokens (now (kinds .entry)) (now (numbers .entry))) (knownValue (now (words .entry)) (now (values .entry)) count) (c .at) ⌝ }
 {
     conditional(kinds, numbers, words, values, count, c, DEPTHS)
 }

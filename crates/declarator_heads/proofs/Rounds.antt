@@ -87,7 +87,7 @@ module _ {ks : List ℕ} {c : Cursor} {s : Steps} {here : Cursor} {t : Steps} (g
       read = g .read;
       holds = g .holds;
       does = λ ns w d v used u. record {
-        run = λ b h. turn (g .going ns w d v used u b h) (λ b₁ f l h₁. is+ _ _ p e (halt _ (full-is _ _ (ap (leb maxSteps) (count u) ∙ (sym q ∙ y))) (no! refl)));
+        run = λ b h. turn (g .going ns w d v used u b h) (λ b₁ f l h₁. is+ _ _ p e (halt _ (full-is _ _ (ap (leb maxSteps) (count u) ∙ (sym q ∙ y))) (no! h refl)));
       };
     })
 

@@ -11,7 +11,7 @@ use Rattle.definition.specs.Token.{Tokens, left}
 use Rattle.definition.specs.Row.{Qualifiers}
 use Rattle.definition.specs.Table.{Table, newTable, Reads}
 use Rattle.definition.specs.Declarator.{qualifiersHere, starsFrom}
-use Rattle.table.specs.Held.{InWords, Counts}
+use Rattle.table.specs.Held.{InWords, Indexed, Counts}
 use Rattle.table.specs.Reply.{Reply, ok, bad, Does}
 use Rattle.table.specs.declared.Cursor.{Cursor}
 use Rattle.table.specs.declared.Step.{Step}
@@ -45,7 +45,7 @@ pub record Stars (ks : List ℕ) (c : Cursor) (s : Steps) (r : Declared) : Type 
 
 -- What is told of w is what f says of whatever table w holds, with as many rows as the cursor counts.
 pub record Tells {A : Type 0} (f : Table → A) (c : Cursor) (w : List ℕ) (r : A) : Type 0 where
-  pub of : (t : Table) → InWords t w → Counts t c → r ≡ f t
+  pub of : (t : Table) (h : InWords t w) → Indexed (t .rows) (t .values) (h .rest) → Counts t c → r ≡ f t
 
 -- a name at i, and neither a bound nor a parameter list after it
 unfoldable pub isPlain : List ℕ → ℕ → Bool

@@ -46,7 +46,7 @@ module _ {t : Table} {w : List ℕ} (h : InWords t w) (i : ℕ) (p : i < maxPara
 
 -- a slice that holds a table has all parameters, and no table has more of them
 pub all-parameters : {t : Table} {w : List ℕ} → InWords t w → length w < 43008 → ⊥
-all-parameters {t} {w} h p = let e : length w ≡ wordsLength = rw (h .are) (words-long t (h .fits)) in omega arith
+all-parameters {t} {w} h p = let e : length w ≡ wordsLength = rw (h .are) (words-long t (h .fits) (h .rest) (h .long)) in omega arith
 
 pub no-more : {t : Table} {w : List ℕ} {n : ℕ} → InWords t w → n ≡ length (t .parameters) → maxParameters < n → ⊥
 no-more h e p = omega (arith, h .fits .parameters)

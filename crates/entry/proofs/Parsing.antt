@@ -16,15 +16,17 @@ use Rattle.definition.specs.Table.{Table, State, newTable}
 use Rattle.definition.specs.Reader.{declaration, declarationsFrom, optionalSemicolon, nothingMore, allDeclarations, loneDeclaration, inText, translationUnit, oneDeclaration}
 use Rattle.definition.specs.NameTable.{nameTable}
 use Rattle.definition.specs.Entry as meant
-use Rattle.table.specs.Held.{state, Counts as Counted, Encodes}
+use Rattle.table.specs.Held.{state, Counts as Counted, Encodes, Long, Left as Remains}
 use Rattle.table.specs.Reply.{Peek, Moves, move}
 use Rattle.table.specs.declared.Cursor.{Cursor}
 use Rattle.table.specs.declared.Move.{Move}
 use Rattle.table.specs.declared.Move.the-variants.{To, Refused as Move·Refused}
 use Rattle.table.proofs.Branch.{eq-yes, eq-no, le-yes, le-no}
-use Rattle.table.proofs.Shown.{long, room, went, said}
+use Rattle.table.proofs.Shown.{long, room, left, went, said, leaves}
 use Rattle.laws.specs.Columns.{Columns}
 use Rattle.names.specs.Names.{HeldWords, Writes}
+use Rattle.erasing.specs.Erased.{Erased}
+use Rattle.definition.specs.Lent.{zeroed}
 use Rattle.entry.specs.Answers.{lexed, firstCursor, Parses, done, stop, countsFrom, countsOf, Read, readTokens}
 use Rattle.entry.specs.Answers as answers
 use Rattle.entry.specs.declared.Counts.{Counts}
@@ -84,18 +86,18 @@ module _ (ks ps ns : List ℕ) (end : ℕ) (m : Model) where
       pub header-done : (c : Cursor) → r ≡ To c → Parses (meant.parse meant.wholeHeader x m) (To c) w′ d′ v′
       header-done c q = let h = went (g .run newTable e) (ap move q) in done (h .table) c (header-got _ (h .says)) refl (h .holds)
 
-      pub header-refused : (n i p : ℕ) → r ≡ Move·Refused n i → p ≡ here x i → {w″ d″ : List ℕ} {v″ : List ℤ} → Parses (meant.parse meant.wholeHeader x m) (Move·Refused n p) w″ d″ v″
-      header-refused n i p q h = stop n p (header-no n i (said (g .run newTable e .ends) (ap move q)) ∙ ap (λ (z : ℕ). refused n z) (sym h)) refl
+      pub header-refused : (n i p : ℕ) → r ≡ Move·Refused n i → p ≡ here x i → Parses (meant.parse meant.wholeHeader x m) (Move·Refused n p) w′ d′ v′
+      header-refused n i p q h = let f = g .run newTable e .ends in stop n p (header-no n i (said f (ap move q)) ∙ ap (λ (z : ℕ). refused n z) (sym h)) refl (leaves f (ap move q))
 
     module _ (g : Moves loneFrom firstCursor w d v (move r) w′ d′ v′) where
       pub one-done : (c : Cursor) → r ≡ To c → c .declarations ≤ 1 → Parses (meant.parse meant.singleDeclaration x m) (To c) w′ d′ v′
       one-done c q p = let h = went (g .run newTable e) (ap move q) in done (h .table) c (one-got _ (h .says) (omega (arith, h .holds .counts .declarations))) refl (h .holds)
 
       pub one-too-many : (c : Cursor) → r ≡ To c → 1 < c .declarations → Parses (meant.parse meant.singleDeclaration x m) (Move·Refused 24 0) w′ d′ v′
-      one-too-many c q p = let h = went (g .run newTable e) (ap move q) in stop 24 0 (one-many _ (h .says) (omega (arith, h .holds .counts .declarations))) refl
+      one-too-many c q p = let h = went (g .run newTable e) (ap move q) in stop 24 0 (one-many _ (h .says) (omega (arith, h .holds .counts .declarations))) refl (left (h .holds))
 
-      pub one-refused : (n i p : ℕ) → r ≡ Move·Refused n i → p ≡ here x i → {w″ d″ : List ℕ} {v″ : List ℤ} → Parses (meant.parse meant.singleDeclaration x m) (Move·Refused n p) w″ d″ v″
-      one-refused n i p q h = stop n p (one-no n i (said (g .run newTable e .ends) (ap move q)) ∙ ap (λ (z : ℕ). refused n z) (sym h)) refl
+      pub one-refused : (n i p : ℕ) → r ≡ Move·Refused n i → p ≡ here x i → Parses (meant.parse meant.singleDeclaration x m) (Move·Refused n p) w′ d′ v′
+      one-refused n i p q h = let f = g .run newTable e .ends in stop n p (one-no n i (said f (ap move q)) ∙ ap (λ (z : ℕ). refused n z) (sym h)) refl (leaves f (ap move q))
 
 -- ---- what was parsed, with its names
 
@@ -107,14 +109,18 @@ pub record Kept (a : Answer Table) (c : Cursor) (w d : List ℕ) (v : List ℤ) 
 module _ {a : Answer Table} {r : Move} {w d : List ℕ} {v : List ℤ} where
   pub kept : {c : Cursor} → Parses a r w d v → r ≡ To c → Kept a c w d v
   kept {c} (done t c′ p q e) h = let z : c′ ≡ c = cc in record { table = t; says = p; holds = subst (λ (y : Cursor). Encodes t y w d v) z e }
-  kept (stop n m p q) h = let z : _≡_ {A = ℕ} 0 1 = cc in absurd (omega arith)
+  kept (stop n m p q l) h = let z : _≡_ {A = ℕ} 0 1 = cc in absurd (omega arith)
 
   pub turned : {n p : ℕ} → Parses a r w d v → r ≡ Move·Refused n p → a ≡ refused n p
   turned (done t c′ p q e) h = let z : _≡_ {A = ℕ} 0 1 = cc in absurd (omega arith)
-  turned (stop n m p q) h = cc
+  turned (stop n m p q l) h = cc
+
+  pub remains : {n p : ℕ} → Parses a r w d v → r ≡ Move·Refused n p → Remains w d v
+  remains (done t c′ p q e) h = let z : _≡_ {A = ℕ} 0 1 = cc in absurd (omega arith)
+  remains (stop n m p q l) h = l
 
   pub kept-words : {c : Cursor} → Parses a r w d v → r ≡ To c → HeldWords c w
-  kept-words p q = let k = kept p q in record { table = k .table; counts = k .holds .counts; words = k .holds .words; long = long (k .holds) .words; room = room (k .holds) }
+  kept-words p q = let k = kept p q in record { table = k .table; counts = k .holds .counts; words = k .holds .words; marks = k .holds .marks; long = long (k .holds) .words; room = room (k .holds) }
 
 counts-are : (t : Table) (c : Cursor) (n : ℕ) (names : List ℕ) → Counted t c → n ≡ length names → countsFrom c n ≡ countsOf (record { table = t; names = names })
 counts-are t c n names o e = rw (o .rows, o .members, o .values, o .parameters, o .declarations, e)
@@ -132,7 +138,7 @@ module _ (entry : meant.Entry) (end : ℕ) (m : Model) {ks ps ns w d : List ℕ}
   read-done e n y q f h =
       let k = kept p q in
       let t = k .table in
-      let g = f .run (lexed ks ps ns end) t (record { kinds = refl; places = refl; numbers = refl }) (k .holds .counts) (k .holds .words) in
+      let g = f .run (lexed ks ps ns end) t (record { kinds = refl; places = refl; numbers = refl }) (k .holds .counts) (k .holds .words) (k .holds .marks) in
       let i = k .holds .words .fits in
       answers.done (record { table = t; names = nameTable (lexed ks ps ns end) t }) (ap (λ (b : Answer Table). b >>= named) (k .says)) (ap Done (h ∙ counts-are t e n (nameTable (lexed ks ps ns end) t) (k .holds .counts) (g .count)))
       (record {
@@ -143,6 +149,9 @@ module _ (entry : meant.Entry) (end : ℕ) (m : Model) {ks ps ns w d : List ℕ}
         few = few-names c end t;
       })
 
-  pub read-refused : (n i : ℕ) → r ≡ Move·Refused n i → {w₀ d₀ w″ d″ : List ℕ} {v₀ v″ : List ℤ} → Read (readTokens entry (lexed ks ps ns end) m) w₀ d₀ v₀ (Refused n i) w″ d″ v″
-  unfolding readTokens _>>=_
-  read-refused n i q = answers.stop n i (ap (λ (b : Answer Table). b >>= named) (turned p q)) refl
+  pub read-refused : (n i : ℕ) → r ≡ Move·Refused n i → {w₀ d₀ w″ d″ : List ℕ} {v₀ v″ : List ℤ} → Long w₀ d₀ v₀ → Erased w d v w″ d″ v″
+      → Read (readTokens entry (lexed ks ps ns end) m) w₀ d₀ v₀ (Refused n i) w″ d″ v″
+  unfolding readTokens _>>=_ zeroed
+  read-refused n i q l f =
+      let z = f .run (remains p q) in
+      answers.stop n i (ap (λ (b : Answer Table). b >>= named) (turned p q)) refl (rw (z .0, z .1 .0, z .1 .1, l .words, l .wides, l .signeds))

@@ -2,11 +2,11 @@
 use mathlib.Core.Path.{_≡_, refl, sym, ap, _∙_}
 use mathlib.Core.Bool.{Bool, true, false, _&&_, _||_}
 use mathlib.Core.Option.{Option, none, some}
-use mathlib.Core.List.{List, _++_}
-use Prim.Native.Nat.{ℕ, _-_, _≤_, _<_}
+use mathlib.Core.List.{List, _∷_, _++_}
+use Prim.Native.Nat.{ℕ, zero, suc, _-_, _≤_, _<_}
 use native.Mathlib.Omega.{arith}
 use lib.Dec.{leb, ltb}
-use lib.IntN.{ℤ}
+use lib.IntN.{ℤ, pos}
 use lib.ListN.{length, take, drop, replicate, length-append, length-replicate, take-append-drop}
 use lib.Seq.{take-at}
 use borrow.Author.Tests.{le-leb, leb-true, le-ltb}
@@ -31,11 +31,11 @@ use Rattle.tokens.specs.declared.Lexing.{Lexing}
 use Rattle.tokens.specs.declared.Lexing.the-variants.{Done as Lexing·Done, Refused as Lexing·Refused}
 use Rattle.clearing.specs.Slices.{lent}
 use Rattle.entry.proofs.Front.{fresh-front, front-filled}
-use Rattle.entry.specs.Answers.{lexed, firstCursor, countsOf, Read, readTokens, Short, Cleared, Enough, Left, Leaves, asLong, Concludes, rejectedAt, out, shown, readLong, Tells, answered, Answers}
+use Rattle.entry.specs.Answers.{lexed, firstCursor, countsOf, Read, readTokens, Short, Cleared, Enough, Left, Leaves, asLong, concluded, rejectedAt, out, shown, readLong, Tells, answered, Answers}
 use Rattle.entry.specs.Answers as answers
 use Rattle.entry.specs.declared.Counts.{Counts}
 use Rattle.entry.specs.declared.Reading.{Reading}
-use Rattle.entry.specs.declared.Reading.the-variants.{Done, Untouched, Refused}
+use Rattle.entry.specs.declared.Reading.the-variants.{Done, Refused}
 use Rattle.entry.specs.declared.Outcome.{Outcome}
 use Rattle.entry.specs.declared.Outcome.the-variants.{Accepted, Rejected}
 
@@ -115,7 +115,7 @@ module _ {text : Bytes} {ks ps ns : List ℕ} {count : ℕ} (h : Lexes text ks p
   unfolding meant.readWith readTokens _>>=_
   text-done entry m g = rw (h .says) (rw (h .same) at g)
 
-pub text-refused : (text : Bytes) (entry : meant.Entry) (m : Model) (n at : ℕ) {w d : List ℕ} {v : List ℤ} → tokenize text ≡ refused n at → Read (meant.readWith m entry text) w d v (Untouched n at) w d v
+pub text-refused : (text : Bytes) (entry : meant.Entry) (m : Model) (n at : ℕ) {w d : List ℕ} {v : List ℤ} → tokenize text ≡ refused n at → Read (meant.readWith m entry text) w d v (Refused n at) w d v
 unfolding meant.readWith _>>=_
 text-refused text entry m n at e = answers.same n at (rw e) refl refl
 
@@ -124,6 +124,18 @@ text-refused text entry m n at e = answers.same n at (rw e) refl refl
 -- a front part that keeps its length keeps that of the whole
 pub front-long : {E : Type 0} (k : ℕ) (xs ys : List E) → length ys ≡ length (take k xs) → length (ys ++ drop k xs) ≡ length xs
 front-long {E} k xs ys e = omega (arith, e, length-append ys (drop k xs), length-append (take k xs) (drop k xs), ap (λ (l : List E). length l) (take-append-drop k xs))
+
+-- the front part of zeros is zeros
+take-zeros : {E : Type 0} (z : E) (k n : ℕ) → take k (replicate n z) ≡ replicate (length (take k (replicate n z))) z
+take-zeros z zero n = refl
+take-zeros z (suc k) zero = refl
+take-zeros {E} z (suc k) (suc n) = ap {B = List E} (λ l. z ∷ l) (take-zeros z k n)
+
+zeros-taken : {E : Type 0} (z : E) (k : ℕ) (xs : List E) (n : ℕ) → xs ≡ replicate n z → take k xs ≡ replicate (length (take k xs)) z
+zeros-taken z k xs n e = rw e (take-zeros z k n)
+
+ap-lent : {w w′ d d′ : List ℕ} {v v′ : List ℤ} → w ≡ w′ → d ≡ d′ → v ≡ v′ → lent w d v ≡ lent w′ d′ v′
+ap-lent p q r = rw (p, q, r)
 
 module _ (l : Lent) (w d : List ℕ) (v : List ℤ) (e : lent w d v ≡ zeroed l) where
   w-long : length w ≡ length (l .words)
@@ -159,11 +171,16 @@ module _ (l : Lent) (w d : List ℕ) (v : List ℤ) (e : lent w d v ≡ zeroed l
       let c : vs ≡ take signedsLength v = ap (λ (x : Lent). x .signeds) q in
       rw (a, b, c, take-append-drop wordsLength w, take-append-drop widesLength d, take-append-drop signedsLength v)
 
+  -- and it was zero
+  zero-front : lent (take wordsLength w) (take widesLength d) (take signedsLength v) ≡ zeroed (lent (take wordsLength w) (take widesLength d) (take signedsLength v))
+  unfolding zeroed
+  zero-front = ap-lent (zeros-taken 0 wordsLength w (length (l .words)) (ap (λ (x : Lent). x .words) e)) (zeros-taken 0 widesLength d (length (l .wides)) (ap (λ (x : Lent). x .wides) e)) (zeros-taken (pos 0) signedsLength v (length (l .signeds)) (ap (λ (x : Lent). x .signeds) e))
+
   front-left : {a : Answer meant.Accepted} {r : Reading} {ws ds : List ℕ} {vs : List ℤ} → Read a (take wordsLength w) (take widesLength d) (take signedsLength v) r ws ds vs
       → Left l a r (ws ++ drop wordsLength w) (ds ++ drop widesLength d) (vs ++ drop signedsLength v)
   front-left (answers.done x p q h) = answers.done x p q (rw (h .words, h .wides, h .signeds) (front-filled l w d v e x (h .limits) (h .few)))
-  front-left {a} {r} {ws} {ds} {vs} (answers.same n p q h s) = answers.same n p q h (front-same ws ds vs s ∙ e)
-  front-left (answers.stop n p q h) = answers.stop n p q h
+  front-left {a} {r} {ws} {ds} {vs} (answers.same n p q h s) = answers.stop n p q h (front-same ws ds vs s ∙ e)
+  front-left {a} {r} {ws} {ds} {vs} (answers.stop n p q h s) = answers.stop n p q h (front-same ws ds vs (s ∙ sym zero-front) ∙ e)
 
   -- the test of the lengths is that of the definition
   as-long : asLong (length w) (length d) (length v) ≡ longEnough l
@@ -219,33 +236,22 @@ module _ (m : Model) (entry : meant.Entry) (text : Bytes) (w d : List ℕ) (v : 
       where
         go : (l : Lent) → readLong l m entry text ≡ meant.readWith m entry text → Left l (meant.readWith m entry text) r w′ d′ v′ → out (Accepted c) (lent w′ d′ v′) ≡ shown l (meant.told text (readLong l m entry text))
         go l y (answers.done x p s e) = let z : c ≡ countsOf x = cc in rw (y, p, z, e)
-        go l y (answers.same n p s e q′) = let z : _≡_ {A = ℕ} 0 1 = cc in absurd (omega arith)
-        go l y (answers.stop n p s e) = let z : _≡_ {A = ℕ} 0 1 = cc in absurd (omega arith)
+        go l y (answers.stop n p s e t) = let z : _≡_ {A = ℕ} 0 1 = cc in absurd (omega arith)
 
-    -- nothing was written: the slices are zero still
-    tells-untouched : (n at : ℕ) (o : Outcome) → r ≡ Untouched n at → o ≡ rejectedAt text n at → Tells m entry text w d v o w′ d′ v′
-    tells-untouched n at o q g = record { run = λ l e. go l e (f .run l e) }
+    -- the slices are zero
+    tells-refused : (n at : ℕ) → r ≡ Refused n at → Tells m entry text w d v (rejectedAt text n at) w′ d′ v′
+    tells-refused n at q = record { run = λ l e. go l e (f .run l e) }
       where
-        go : (l : Lent) → lent w d v ≡ zeroed l → Left l (meant.readWith m entry text) r w′ d′ v′ → out o (lent w′ d′ v′) ≡ shown l (meant.told text (readLong l m entry text))
+        go : (l : Lent) → lent w d v ≡ zeroed l → Left l (meant.readWith m entry text) r w′ d′ v′ → out (rejectedAt text n at) (lent w′ d′ v′) ≡ shown l (meant.told text (readLong l m entry text))
         go l e (answers.done x p s t) = let y : _≡_ {A = ℕ} 0 1 = cc in absurd (omega arith)
-        go l e (answers.same n′ p′ s t z) = let y : n′ ≡ n = cc in let u : p′ ≡ at = cc in refused-out l text n at o w′ d′ v′ (readLong l m entry text) (read-yes l e ∙ (s ∙ rw (y, u))) g z
-        go l e (answers.stop n′ p′ s t) = let y : _≡_ {A = ℕ} 0 1 = cc in absurd (omega arith)
+        go l e (answers.stop n′ p′ s t z) = let y : n′ ≡ n = cc in let u : p′ ≡ at = cc in refused-out l text n at (rejectedAt text n at) w′ d′ v′ (readLong l m entry text) (read-yes l e ∙ (s ∙ rw (y, u))) refl z
 
-    tells-refused : (n at : ℕ) (o : Outcome) (w″ d″ : List ℕ) (v″ : List ℤ) → r ≡ Refused n at → length w′ ≡ length w → length d′ ≡ length d → length v′ ≡ length v
-        → lent w″ d″ v″ ≡ zeroed (lent w′ d′ v′) → o ≡ rejectedAt text n at → Tells m entry text w d v o w″ d″ v″
-    tells-refused n at o w″ d″ v″ q i j k z g = record { run = λ l e. refused-out l text n at o w″ d″ v″ (readLong l m entry text) (read-yes l e ∙ says l (f .run l e)) g (z ∙ zeroed-again l w d v e w′ d′ v′ i j k) }
-      where
-        says : (l : Lent) → Left l (meant.readWith m entry text) r w′ d′ v′ → meant.readWith m entry text ≡ refused n at
-        says l (answers.done x p s e) = let y : _≡_ {A = ℕ} 0 1 = cc in absurd (omega arith)
-        says l (answers.same n′ p′ s e t) = let y : _≡_ {A = ℕ} 0 1 = cc in absurd (omega arith)
-        says l (answers.stop n′ p′ s e) = let y : n′ ≡ n = cc in let u : p′ ≡ at = cc in s ∙ rw (y, u)
+    tells-so : (x : Reading) → r ≡ x → Tells m entry text w d v (concluded text x) w′ d′ v′
+    tells-so (Done c) q = tells-done c q
+    tells-so (Refused n at) q = tells-refused n at q
 
-    pub tells-concluded : (o : Outcome) (w″ d″ : List ℕ) (v″ : List ℤ) → length w′ ≡ length w → length d′ ≡ length d → length v′ ≡ length v
-        → Concludes text r w′ d′ v′ o w″ d″ v″ → Tells m entry text w d v o w″ d″ v″
-    tells-concluded o w″ d″ v″ i j k (answers.done c q g z) =
-        record { run = λ l e. ap (λ (x : Outcome). out x (lent w″ d″ v″)) g ∙ (ap (λ (x : Lent). out (Accepted c) x) z ∙ tells-done c q .run l e) }
-    tells-concluded o w″ d″ v″ i j k (answers.same n p q g z) = record { run = λ l e. ap (λ (x : Lent). out o x) z ∙ tells-untouched n p o q g .run l e }
-    tells-concluded o w″ d″ v″ i j k (answers.stop n p q g z) = tells-refused n p o w″ d″ v″ q i j k z g
+    pub tells-concluded : (o : Outcome) → o ≡ concluded text r → Tells m entry text w d v o w′ d′ v′
+    tells-concluded o q = rw q (tells-so r refl)
 
 module _ (model : ℕ) (entry : meant.Entry) (text : Bytes) (r : Outcome) (w d : List ℕ) (v : List ℤ) where
   module _ (l : Lent) where

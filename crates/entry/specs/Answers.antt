@@ -18,7 +18,7 @@ use Rattle.definition.specs.NameTable.{nameTable}
 use Rattle.definition.specs.Entry as meant
 use Rattle.definition.specs.Lent.{Lent, words, wides, signeds, wordsLength, widesLength, signedsLength, longEnough, zeroed, leftIn}
 use Rattle.laws.specs.Inside.{WithinLimits}
-use Rattle.table.specs.Held.{Encodes}
+use Rattle.table.specs.Held.{Encodes, Left as Remains}
 use Rattle.table.specs.declared.Cursor.{Cursor}
 use Rattle.table.specs.declared.Move.{Move}
 use Rattle.table.specs.declared.Move.the-variants.{To, Refused as Move·Refused}
@@ -27,7 +27,7 @@ use Rattle.entry.specs.declared.Counts.{Counts}
 use Rattle.entry.specs.declared.Entry.{Entry}
 use Rattle.entry.specs.declared.Entry.the-variants.{WholeHeader, SingleDeclaration}
 use Rattle.entry.specs.declared.Reading.{Reading}
-use Rattle.entry.specs.declared.Reading.the-variants.{Done, Untouched, Refused}
+use Rattle.entry.specs.declared.Reading.the-variants.{Done, Refused}
 use Rattle.entry.specs.declared.Outcome.{Outcome}
 use Rattle.entry.specs.declared.Outcome.the-variants.{Accepted, Rejected}
 
@@ -43,10 +43,10 @@ lexed ks ps ns end = record { tokens = record { kinds = ks; numbers = ns }; plac
 abbrev pub firstCursor : Cursor
 firstCursor = record { at = 0; rows = 1; members = 0; values = 0; parameters = 0; declarations = 0 }
 
--- a table was read, or refused at an offset
+-- a table was read, or refused at an offset, and what was read of it remains
 pub data Parses (a : Answer Table) (r : Move) (w d : List ℕ) (v : List ℤ) : Type 0 where
   done : (t : Table) (c : Cursor) → a ≡ got t → r ≡ To c → Encodes t c w d v → Parses a r w d v
-  stop : (n p : ℕ) → a ≡ refused n p → r ≡ Move·Refused n p → Parses a r w d v
+  stop : (n p : ℕ) → a ≡ refused n p → r ≡ Move·Refused n p → Remains w d v → Parses a r w d v
 
 abbrev pub countsFrom : Cursor → ℕ → Counts
 countsFrom c names = record { rows = c .rows; members = c .members; values = c .values; parameters = c .parameters; declarations = c .declarations; names = names }
@@ -70,11 +70,11 @@ pub record Holds (a : meant.Accepted) (w d : List ℕ) (v : List ℤ) : Type 0 w
   pub limits : WithinLimits (a .table)
   pub few : length (a .names) ≤ maxNames
 
--- a text was read, or refused: before a number was written, or in the midst of a table
+-- a text was read, or refused: before a number was written, or in the midst of a table, which is cleared
 pub data Read (a : Answer meant.Accepted) (w d : List ℕ) (v : List ℤ) (r : Reading) (w′ d′ : List ℕ) (v′ : List ℤ) : Type 0 where
   done : (x : meant.Accepted) → a ≡ got x → r ≡ Done (countsOf x) → Holds x w′ d′ v′ → Read a w d v r w′ d′ v′
-  same : (n p : ℕ) → a ≡ refused n p → r ≡ Untouched n p → lent w′ d′ v′ ≡ lent w d v → Read a w d v r w′ d′ v′
-  stop : (n p : ℕ) → a ≡ refused n p → r ≡ Refused n p → Read a w d v r w′ d′ v′
+  same : (n p : ℕ) → a ≡ refused n p → r ≡ Refused n p → lent w′ d′ v′ ≡ lent w d v → Read a w d v r w′ d′ v′
+  stop : (n p : ℕ) → a ≡ refused n p → r ≡ Refused n p → lent w′ d′ v′ ≡ zeroed (lent w d v) → Read a w d v r w′ d′ v′
 
 unfoldable pub readTokens : meant.Entry → Lexed → Model → Answer meant.Accepted
 readTokens entry x m = do
@@ -112,11 +112,10 @@ pub record Enough (w d : List ℕ) (v : List ℤ) : Type 0 where
 abbrev pub asLong : ℕ → ℕ → ℕ → Bool
 asLong words wides signeds = leb wordsLength words && (leb widesLength wides && leb signedsLength signeds)
 
--- a table was read into their front, with zeros after it; zeros stay where no number was written
+-- a table was read into their front, with zeros after it; or they are zero
 pub data Left (l : Lent) (a : Answer meant.Accepted) (r : Reading) (w d : List ℕ) (v : List ℤ) : Type 0 where
   done : (x : meant.Accepted) → a ≡ got x → r ≡ Done (countsOf x) → lent w d v ≡ leftIn l (meant.accepted x) → Left l a r w d v
-  same : (n p : ℕ) → a ≡ refused n p → r ≡ Untouched n p → lent w d v ≡ zeroed l → Left l a r w d v
-  stop : (n p : ℕ) → a ≡ refused n p → r ≡ Refused n p → Left l a r w d v
+  stop : (n p : ℕ) → a ≡ refused n p → r ≡ Refused n p → lent w d v ≡ zeroed l → Left l a r w d v
 
 pub record Leaves (a : Answer meant.Accepted) (w d : List ℕ) (v : List ℤ) (r : Reading) (w′ d′ : List ℕ) (v′ : List ℤ) : Type 0 where
   pub run : (l : Lent) → lent w d v ≡ zeroed l → Left l a r w′ d′ v′
@@ -127,11 +126,10 @@ pub record Leaves (a : Answer meant.Accepted) (w d : List ℕ) (v : List ℤ) (r
 abbrev pub rejectedAt : Bytes → ℕ → ℕ → Outcome
 rejectedAt text n at = Rejected n at (placeOf text at .line) (placeOf text at .column)
 
--- what is told after a reading: a refusal in the midst of a table leaves zeros
-pub data Concludes (text : Bytes) (r : Reading) (w d : List ℕ) (v : List ℤ) (o : Outcome) (w′ d′ : List ℕ) (v′ : List ℤ) : Type 0 where
-  done : (c : Counts) → r ≡ Done c → o ≡ Accepted c → lent w′ d′ v′ ≡ lent w d v → Concludes text r w d v o w′ d′ v′
-  same : (n p : ℕ) → r ≡ Untouched n p → o ≡ rejectedAt text n p → lent w′ d′ v′ ≡ lent w d v → Concludes text r w d v o w′ d′ v′
-  stop : (n p : ℕ) → r ≡ Refused n p → o ≡ rejectedAt text n p → lent w′ d′ v′ ≡ zeroed (lent w d v) → Concludes text r w d v o w′ d′ v′
+-- what is told after a reading
+abbrev pub concluded : Bytes → Reading → Outcome
+concluded text (Done c) = Accepted c
+concluded text (Refused n p) = rejectedAt text n p
 
 -- what the caller is told, and what stands in the slices then
 pub data Out : Type 0 where

@@ -1,5 +1,6 @@
 // The two entries on texts: `translation_unit` and `declaration`, over slices that the caller lends.
 use clearing::clear;
+use erasing::clear_left;
 use names::fill_names;
 use scan::line_column;
 use table::Cursor;
@@ -26,7 +27,7 @@ ghost use Rattle.tokens.specs.Columns.{RoomIf, Zero};
 ghost use Rattle.clearing.specs.Slices.{lent};
 ghost use Rattle.definition.specs.Lent.{longEnough};
 ghost use Rattle.entry.specs.Walking.{Walkable};
-ghost use Rattle.entry.specs.Answers.{entryOf, lexed, firstCursor, countsFrom, Parses, Read, Reads, Short, ShortIf, Cleared, Enough, Leaves, asLong, Concludes, rejectedAt, out, answered, Answers};
+ghost use Rattle.entry.specs.Answers.{entryOf, lexed, firstCursor, countsFrom, Parses, Read, Reads, Short, ShortIf, Cleared, Enough, Leaves, asLong, concluded, rejectedAt, out, answered, Answers};
 
 // A lent slice must be as long.
 pub const WORDS: usize = 78848;
@@ -57,10 +58,9 @@ pub enum Outcome {
     Rejected(u32, usize, usize, usize),
 }
 
-// How a text was read: counts, or a refusal with its number and offset. `Untouched` is one before a number of the table was written.
+// How a text was read: counts, or a refusal with its number and offset.
 pub enum Reading {
     Done(Counts),
-    Untouched(u32, usize),
     Refused(u32, usize),
 }
 
@@ -179,7 +179,7 @@ fn counted(c: Cursor, names: usize) -> Counts
 
 // ---- texts
 
-// The tokens of a text read into a new table, with its names.
+// The tokens of a text read into a new table, with its names. Where they are refused, what was read is taken out again.
 fn read_tokens(
     entry: Entry,
     kinds: &[u32],
@@ -201,7 +201,10 @@ fn read_tokens(
             let names = fill_names(kinds, places, numbers, w, c);
             Reading::Done(counted(c, names))
         }
-        Move::Refused(n, p) => Reading::Refused(n, p),
+        Move::Refused(n, p) => {
+            clear_left(w, d, v);
+            Reading::Refused(n, p)
+        }
     }
 }
 
@@ -235,7 +238,7 @@ fn read_columns(
             d,
             v,
         ),
-        Lexing::Refused(n, p) => Reading::Untouched(n, p),
+        Lexing::Refused(n, p) => Reading::Refused(n, p),
     }
 }
 
@@ -286,17 +289,13 @@ fn long_enough(words: usize, wides: usize, signeds: usize) -> bool
     (WORDS <= words) & ((WIDES <= wides) & (SIGNEDS <= signeds))
 }
 
-// What the caller is told. A refusal in the midst of a table clears the slices.
-fn conclude(text: &[u8], reading: Reading, w: &mut [u32], d: &mut [u64], v: &mut [i64]) -> Outcome
-    ensures { λ r. ⌜ Concludes (now (text .entry)) reading (now (w .entry)) (now (d .entry)) (now (v .entry)) r (now (w .exit)) (now (d .exit)) (now (v .exit)) ⌝ }
+// What the caller is told.
+fn conclude(text: &[u8], reading: Reading) -> Outcome
+    ensures { λ r. ⌜ r ≡ concluded (now (text .entry)) reading ⌝ }
 {
     match reading {
         Reading::Done(counts) => Outcome::Accepted(counts),
-        Reading::Untouched(n, offset) => reject(text, n, offset),
-        Reading::Refused(n, offset) => {
-            clear(w, d, v);
-            reject(text, n, offset)
-        }
+        Reading::Refused(n, offset) => reject(text, n, offset),
     }
 }
 
@@ -331,7 +330,7 @@ fn read_small(
                     d,
                     v,
                 );
-                return conclude(text, r, w, d, v);
+                return conclude(text, r);
             }
             reject(text, BAD_CALL, 0)
         }
@@ -369,7 +368,7 @@ fn read_large(
                     d,
                     v,
                 );
-                return conclude(text, r, w, d, v);
+                return conclude(text, r);
             }
             reject(text, BAD_CALL, 0)
         }

@@ -35,7 +35,7 @@ use Rattle.enumerators.specs.Doing.{enumeratorsHere}
 module _ {a : Answer (ℕ × State)} {r : Reply ℕ} {w d : List ℕ} {v : List ℤ} (e : Event) where
   noted′ : Shown both a r w d v → Shows both (a >>= λ x. got (x .0, withTable (x .1) (logged (x .1 .table) e))) r w d v
   noted′ (done t c i p q h) = via _ p (record { ends = done _ _ _ refl q (logged-on e h) })
-  noted′ (stop n p q z) = halt _ q (Shown.no! z)
+  noted′ (stop n p q z l) = halt _ q (Shown.no-left l z)
 
   pub noted : Shows both a r w d v → Shows both (a >>= λ x. got (x .0, withTable (x .1) (logged (x .1 .table) e))) r w d v
   noted h = noted′ (h .ends)

@@ -25,6 +25,7 @@ use Rattle.table.specs.Held.{Encodes, noMember}
 use Rattle.table.specs.Reply.{Reply, ok, bad}
 use Rattle.table.specs.Store.{memberPlaceSet, ChangesWides}
 use Rattle.table.specs.declared.Cursor.{Cursor}
+use Rattle.table.proofs.Shown.{left}
 use Rattle.table.proofs.Branch.{yes, nay, lt-yes, lt-no, and-left}
 use Rattle.sizes.specs.declared.Size.{Size}
 use Rattle.sizes.specs.declared.Size.the-variants.{Known, Big, Unknown}
@@ -204,7 +205,7 @@ module _ (m : Model) (t : Table) (union : Bool) (first at : ℕ) where
       where
         go : Lays t c w d v (placedFrom m t union first) r → Lays t c w d v (layout m t union first at) (bad n p)
         go (done x es a b k) = let z : _≡_ {A = ℕ} 0 1 = cc in absurd (omega arith)
-        go (stop n′ p′ a b) = let u : n′ ≡ n = cc in let x : p′ ≡ p = cc in stop n p (laid-out ∙ ap (λ z. z >>= withSize) {y = refused n p} (a ∙ rw (u, x))) refl
+        go (stop n′ p′ a b l) = let u : n′ ≡ n = cc in let x : p′ ≡ p = cc in stop n p (laid-out ∙ ap (λ z. z >>= withSize) {y = refused n p} (a ∙ rw (u, x))) refl l
 
     pub layout-sized : {l : Laid} {s : ℕ} → r ≡ ok c l → recordSize m t union at l ≡ got s → Lays t c w d v (layout m t union first at) (ok c s)
     unfolding _>>=_
@@ -212,15 +213,15 @@ module _ (m : Model) (t : Table) (union : Bool) (first at : ℕ) where
       where
         go : Lays t c w d v (placedFrom m t union first) r → Lays t c w d v (layout m t union first at) (ok c s)
         go (done x es a b k) = let y : x ≡ l = cc in done s es (laid-out ∙ (ap (λ z. z >>= withSize) a ∙ rw (y, q))) refl k
-        go (stop n p a b) = let z : _≡_ {A = ℕ} 0 1 = cc in absurd (omega arith)
+        go (stop n p a b f) = let z : _≡_ {A = ℕ} 0 1 = cc in absurd (omega arith)
 
     pub layout-too-large : {l : Laid} {n p : ℕ} → r ≡ ok c l → recordSize m t union at l ≡ refused n p → Lays t c w d v (layout m t union first at) (bad n p)
     unfolding _>>=_
     layout-too-large {l} {n} {p} e q = go h
       where
         go : Lays t c w d v (placedFrom m t union first) r → Lays t c w d v (layout m t union first at) (bad n p)
-        go (done x es a b k) = let y : x ≡ l = cc in stop n p (laid-out ∙ (ap (λ z. z >>= withSize) a ∙ rw (y, q))) refl
-        go (stop n′ p′ a b) = let z : _≡_ {A = ℕ} 0 1 = cc in absurd (omega arith)
+        go (done x es a b k) = let y : x ≡ l = cc in stop n p (laid-out ∙ (ap (λ z. z >>= withSize) a ∙ rw (y, q))) refl (left k)
+        go (stop n′ p′ a b f) = let z : _≡_ {A = ℕ} 0 1 = cc in absurd (omega arith)
 
 -- ---- a member
 

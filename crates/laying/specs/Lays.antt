@@ -11,7 +11,7 @@ use Rattle.definition.specs.Table.{Table, Member, rowAt, markOf, withMembers}
 use Rattle.definition.specs.Types.{resolve}
 use Rattle.definition.specs.Size.{sizeOf}
 use Rattle.definition.specs.Layout.{Laid as Laid·meant, emptyBody, located, isUnsized, memberSize, isLast, placed, placedAll}
-use Rattle.table.specs.Held.{InWords, Encodes, memberAt}
+use Rattle.table.specs.Held.{InWords, Encodes, Left, memberAt}
 use Rattle.table.specs.Reply.{Reply, ok, bad}
 use Rattle.table.specs.declared.Cursor.{Cursor}
 use Rattle.words.specs.declared.model.Model.{Model}
@@ -65,7 +65,7 @@ placedFrom m t union first = do
 -- An answer and the slices say what f says of whatever table they held: its value, and the member entries that it makes; or its refusal.
 pub data Lays {A : Type 0} (t : Table) (c : Cursor) (w d : List ℕ) (v : List ℤ) (a : Answer (A × List Member)) (r : Reply A) : Type 0 where
   done : (x : A) (es : List Member) → a ≡ got (x, es) → r ≡ ok c x → Encodes (withMembers t es) c w d v → Lays t c w d v a r
-  stop : (n p : ℕ) → a ≡ refused n p → r ≡ bad n p → Lays t c w d v a r
+  stop : (n p : ℕ) → a ≡ refused n p → r ≡ bad n p → Left w d v → Lays t c w d v a r
 
 pub record LaysOut {A : Type 0} (f : Table → Answer (A × List Member)) (c : Cursor) (w d : List ℕ) (r : Reply A) (d′ : List ℕ) : Type 0 where
   pub of : (t : Table) (v : List ℤ) → Encodes t c w d v → Lays t c w d′ v (f t) r

@@ -4,9 +4,9 @@ use mathlib.Core.List.{List, [], _∷_, _++_, append-assoc}
 use Prim.Native.Nat.{ℕ, zero, suc, _+_, _*_, _≤_, _<_}
 use native.Mathlib.Omega.{arith}
 use lib.ListN.{length, getD, replicate, length-append, List·getD-eq-default}
-use Rattle.definition.specs.Limit.{maxRows, maxMembers, maxValues, maxParameters, maxDeclarations, maxNames}
+use Rattle.definition.specs.Limit.{maxRows, maxMembers, maxValues, maxParameters, maxDeclarations}
 use Rattle.definition.specs.Table.{Table, storageNumber}
-use Rattle.definition.specs.Lent.{padded, flat, rowWords, memberWords, valueWords, parameterWords, declarationWords, tableWords, words}
+use Rattle.definition.specs.Lent.{padded, flat, rowWords, memberWords, valueWords, parameterWords, declarationWords, tableWords}
 use Rattle.table.specs.Held.{readingWords, Fits, InWords}
 use Rattle.table.specs.Reply.{Peek}
 use Rattle.table.proofs.Flat.{length-padded, length-flat, region-get}
@@ -18,12 +18,9 @@ module _ (t : Table) where
       ++ (padded 0 (4 * maxMembers) (flat memberWords (t .members))
       ++ (padded 0 (2 * maxValues) (flat valueWords (t .values)) ++ padded 0 (3 * maxParameters) (flat parameterWords (t .parameters))))
 
-  abbrev after : List ℕ
-  after = padded 0 (2 * maxNames) []
-
-  at-declarations : readingWords t ≡ before ++ (padded 0 (3 * maxDeclarations) (flat declarationWords (t .declarations)) ++ after)
-  unfolding readingWords words tableWords flat
-  at-declarations = simp append-assoc
+  at-declarations : (rest : List ℕ) → readingWords t rest ≡ before ++ (padded 0 (3 * maxDeclarations) (flat declarationWords (t .declarations)) ++ rest)
+  unfolding readingWords tableWords flat
+  at-declarations rest = simp append-assoc
 
   before-long : Fits t → length before ≡ 43008
   before-long fit = rw (
@@ -36,14 +33,14 @@ module _ (t : Table) where
     length-padded 0 (3 * maxParameters) (flat parameterWords (t .parameters)) (rw (length-flat parameterWords 3 (λ x. refl) (t .parameters)) (omega (arith, fit .parameters))),
   )
 
-  declaration-word : Fits t → (i j b : ℕ) → i < maxDeclarations → j < 3 → b ≡ 43008 + (3 * i + j) → getD (readingWords t) b 0 ≡ getD (declarationWords (declarationAt t i)) j 0
+  declaration-word : (rest : List ℕ) → Fits t → (i j b : ℕ) → i < maxDeclarations → j < 3 → b ≡ 43008 + (3 * i + j) → getD (readingWords t rest) b 0 ≡ getD (declarationWords (declarationAt t i)) j 0
   unfolding storageNumber
-  declaration-word fit i j b p q e = ap (λ l. getD l b 0) at-declarations
-      ∙ region-get declarationWords 3 (λ y. refl) 0 43008 (3 * maxDeclarations) before after (before-long fit) noDeclaration (t .declarations) i j b e q (omega arith) (omega (arith, fit .declarations)) refl
+  declaration-word rest fit i j b p q e = ap (λ l. getD l b 0) (at-declarations rest)
+      ∙ region-get declarationWords 3 (λ y. refl) 0 43008 (3 * maxDeclarations) before rest (before-long fit) noDeclaration (t .declarations) i j b e q (omega arith) (omega (arith, fit .declarations)) refl
 
 pub declaration-read : {t : Table} {w : List ℕ} {b r : ℕ} → Peek w b r → InWords t w → (i j : ℕ) → i < maxDeclarations → j < 3 → b ≡ 43008 + (3 * i + j)
     → r ≡ getD (declarationWords (declarationAt t i)) j 0
-declaration-read {t} {b = b} p h i j l q e = p .is ∙ rw (h .are) (declaration-word t (h .fits) i j b l q e)
+declaration-read {t} {b = b} p h i j l q e = p .is ∙ rw (h .are) (declaration-word t (h .rest) (h .fits) i j b l q e)
 
 zeros : (k j : ℕ) → _≡_ {A = ℕ} (getD (replicate k 0) j 0) 0
 zeros zero j = refl

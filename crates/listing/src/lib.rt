@@ -3,7 +3,7 @@ ghost use mathlib.Core.Path.{_≡_};
 ghost use Rattle.definition.specs.Table.{rowAt};
 ghost use Rattle.definition.specs.Lent.{flat};
 ghost use Rattle.definition.specs.Listing.{subLines, typeLines, declLine, listing};
-ghost use Rattle.table.specs.Held.{Encodes, Room};
+ghost use Rattle.table.specs.Held.{Stands, Room};
 ghost use Rattle.words.specs.Meaning.{model};
 ghost use Rattle.lines.specs.Lines.{WroteAs};
 ghost use Rattle.listing.specs.Listed.{HoldMembers, HoldValues, HoldParameters, HoldDeclarations, memberLines, valueLines, paramLines};
@@ -123,7 +123,7 @@ fn sub_lines(
     c: Cursor,
     row: u32,
 ) -> usize
-    ensures { λ r. ⌜ WroteAs (λ t. Encodes t c (now (w .entry)) (now (d .entry)) (now (v .entry))) (λ t. subLines (now (text .entry)) t row (rowAt t row)) (now (out .entry)) n (now (out .exit)) r ⌝ }
+    ensures { λ r. ⌜ WroteAs (λ t. Stands t c (now (w .entry)) (now (d .entry)) (now (v .entry))) (λ t. subLines (now (text .entry)) t row (rowAt t row)) (now (out .entry)) n (now (out .exit)) r ⌝ }
 {
     let kind = row_kind(w, row);
     if (kind == STRUCT_KIND) | (kind == UNION_KIND) {
@@ -151,7 +151,7 @@ fn type_lines(
     c: Cursor,
 ) -> usize
     requires { ⌜ Room c ⌝ }
-    ensures { λ r. ⌜ WroteAs (λ t. Encodes t c (now (w .entry)) (now (d .entry)) (now (v .entry))) (λ t. typeLines (now (text .entry)) (model m) t 0 (t .rows)) (now (out .entry)) n (now (out .exit)) r ⌝ }
+    ensures { λ r. ⌜ WroteAs (λ t. Stands t c (now (w .entry)) (now (d .entry)) (now (v .entry))) (λ t. typeLines (now (text .entry)) (model m) t 0 (t .rows)) (now (out .entry)) n (now (out .exit)) r ⌝ }
 {
     let rows = c.rows;
     let members = c.members;
@@ -190,7 +190,7 @@ pub fn put_listing(
     c: Cursor,
 ) -> usize
     requires { ⌜ Room c ⌝ }
-    ensures { λ r. ⌜ WroteAs (λ t. Encodes t c (now (w .entry)) (now (d .entry)) (now (v .entry))) (λ t. listing (now (text .entry)) (model m) t) (now (out .entry)) n (now (out .exit)) r ⌝ }
+    ensures { λ r. ⌜ WroteAs (λ t. Stands t c (now (w .entry)) (now (d .entry)) (now (v .entry))) (λ t. listing (now (text .entry)) (model m) t) (now (out .entry)) n (now (out .exit)) r ⌝ }
 {
     let at = type_lines(out, n, text, m, w, d, v, c);
     decl_lines(out, at, text, w, c.declarations)

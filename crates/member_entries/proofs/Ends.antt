@@ -15,7 +15,7 @@ use Rattle.table.specs.Reply.{Reply, ok, bad, Shows, both, Moves, Nothing}
 use Rattle.table.specs.Store.{ChangesWords}
 use Rattle.table.specs.declared.Cursor.{Cursor}
 use Rattle.table.proofs.Branch.{via, halt}
-use Rattle.table.proofs.Shown.{got!, no! }
+use Rattle.table.proofs.Shown.{got!, no-left}
 use Rattle.fields.specs.Fields.{fieldPushed, widthIn}
 use Rattle.parts.specs.Parts as Parts
 use Rattle.owning.specs.Owning.{Counted}
@@ -40,13 +40,13 @@ noted-on true t es h = h
 noted-on false t es h = logged-on wide h
 
 module _ {t : Table} {c : Cursor} {w d : List ℕ} {v : List ℤ} {r : Reply ℕ} (m : Model) (union : Bool) (first at : ℕ) where
-  pub closed-refused : {w′ d′ : List ℕ} {n p : ℕ} → Lays t c w d v (layout m t union first at) r → r ≡ bad n p → Shows both (closed m union first at (state c t)) (bad n p) w′ d′ v
+  pub closed-refused : {n p : ℕ} → Lays t c w d v (layout m t union first at) r → r ≡ bad n p → Shows both (closed m union first at (state c t)) (bad n p) w d v
   unfolding closed
   closed-refused (done x es a q h) e = let z : _≡_ {A = ℕ} 0 1 = cc in absurd (omega arith)
-  closed-refused {n = n} {p} (stop k i a q) e =
+  closed-refused {n = n} {p} (stop k i a q l) e =
       let x : n ≡ k = cc in
       let y : p ≡ i = cc in
-      rw (x, y) (halt _ a (no! refl))
+      rw (x, y) (halt _ a (no-left l refl))
 
   pub closed-laid : {w′ : List ℕ} {size count : ℕ} → Lays t c w d v (layout m t union first at) r → r ≡ ok c size
       → ChangesWords (λ u. withMembers u (fieldsOnly first (u .members))) c w w′ → Counted (λ u. howManyCarry (markOf first) (drop first (u .members))) c w′ count
@@ -57,4 +57,4 @@ module _ {t : Table} {c : Cursor} {w d : List ℕ} {v : List ℤ} {r : Reply ℕ
       let k = f .with d v .run (withMembers t es) h in
       let y : count ≡ howManyCarry (markOf first) (drop first (fieldsOnly first es)) = g .of _ (k .words) (k .counts) in
       via _ a (rw (z, y) (got! (noted-on _ t _ k)))
-  closed-laid (stop n p a q) e f g = let z : _≡_ {A = ℕ} 0 1 = cc in absurd (omega arith)
+  closed-laid (stop n p a q l) e f g = let z : _≡_ {A = ℕ} 0 1 = cc in absurd (omega arith)

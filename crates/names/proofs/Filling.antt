@@ -6,7 +6,7 @@ use Prim.Native.Nat.{ℕ, _+_, _*_, _/_, _≤_, _<_}
 use native.Mathlib.Omega.{arith}
 use native.Mathlib.Numerals.{add-one}
 use lib.Dec.{eqb}
-use lib.ListN.{length, getD, set, drop, length-append}
+use lib.ListN.{length, getD, set, drop, replicate, length-append, length-replicate}
 use lib.Seq.{drop-cons, drop-length}
 use Rattle.definition.specs.Name.{offsetOf, lengthOf}
 use Rattle.definition.specs.Limit.{maxNames}
@@ -14,11 +14,11 @@ use Rattle.definition.specs.Table.{Table}
 use Rattle.definition.specs.NameTable.{heldNames, isHeld, namesAmong}
 use Rattle.definition.specs.Lent.{padded, flat, nameWords, tableWords, words, wordsLength}
 use Rattle.laws.proofs.Left.{tableWords-length}
-use Rattle.table.specs.Held.{readingWords, Fits, InWords}
+use Rattle.table.specs.Held.{readingWords, Fits}
 use Rattle.table.proofs.Regions.{words-long}
 use Rattle.table.proofs.Flat.{stored, region, region-add}
 use Rattle.laws.specs.Columns.{Columns}
-use Rattle.names.specs.Names.{isFirst}
+use Rattle.names.specs.Names.{isFirst, Plain}
 use Rattle.names.specs.Striking.{Found, Filled}
 use Rattle.names.proofs.Crossing.{first-place}
 
@@ -74,10 +74,14 @@ write-one t f done n b e l =
     ∙ (region-add nameWords 2 (λ y. refl) 0 46080 (2 * maxNames) (tableWords t) [] (names-at t f) done n b e (omega arith)
     ∙ ap (λ (x : List ℕ). tableWords t ++ x) (append-nil (padded 0 (2 * maxNames) (flat nameWords (done ++ n ∷ [])))))
 
-module _ {ks ps ns m w₀ : List ℕ} {t : Table} (c : Columns ks ps ns) (h : InWords t w₀) (f : Found ks ps ns m (heldNames t)) where
+-- no names yet
+no-names : (t : Table) → readingWords t (replicate (2 * maxNames) 0) ≡ words (record { table = t; names = [] })
+unfolding readingWords words padded flat
+no-names t = refl
+
+module _ {ks ps ns m w₀ : List ℕ} {t : Table} (c : Columns ks ps ns) (h : Plain t w₀) (f : Found ks ps ns m (heldNames t)) where
   pub go-start : Going ks ps ns t 0 0 w₀
-  unfolding readingWords
-  go-start = record { done = []; holds = h .are; counted = refl; whole = refl }
+  go-start = record { done = []; holds = h .are ∙ no-names t; counted = refl; whole = refl }
 
   module _ {i count : ℕ} {w : List ℕ} (g : Going ks ps ns t i count w) where
     pub go-end : length ks ≤ i → i ≤ length ks → Filled ks ps ns t count w
@@ -118,5 +122,5 @@ module _ {ks ps ns m w₀ : List ℕ} {t : Table} (c : Columns ks ps ns) (h : In
               whole = more ∙ sym (append-assoc (g .done) (getD ns i 0 ∷ []) _);
             }
 
-pub in-long : {w : List ℕ} (t : Table) → InWords t w → length w ≡ wordsLength
-in-long t h = rw (h .are) (words-long t (h .fits))
+pub plain-long : {w : List ℕ} (t : Table) → Plain t w → length w ≡ wordsLength
+plain-long t h = rw (h .are) (words-long t (h .fits) (replicate (2 * maxNames) 0) (length-replicate {A = ℕ} (2 * maxNames) 0))

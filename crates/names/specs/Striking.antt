@@ -6,13 +6,14 @@ use Prim.Native.Nat.{ℕ, zero, suc, _+_, _-_, _*_, _<_}
 use lib.Dec.{eqb}
 use lib.ListN.{length, getD}
 use Rattle.definition.specs.Name.{offsetOf}
+use Rattle.definition.specs.Token.{Lexed}
 use Rattle.definition.specs.Table.{Table}
 use Rattle.definition.specs.NameTable.{heldNames, isHeld, namesAmong}
-use Rattle.definition.specs.Lent.{words}
-use Rattle.table.specs.Held.{Counts, InWords}
+use Rattle.definition.specs.Lent.{words, wordsLength}
+use Rattle.table.specs.Held.{Counts, InWords, Room}
 use Rattle.table.specs.declared.Cursor.{Cursor}
 use Rattle.laws.specs.Columns.{Columns}
-use Rattle.names.specs.Names.{isFirst}
+use Rattle.names.specs.Names.{isFirst, Plain, ColumnsOf, NamesIn}
 
 -- the first so many of a column: every number from a place on, in steps of a width
 unfoldable pub column : List ℕ → ℕ → ℕ → ℕ → List ℕ
@@ -58,7 +59,7 @@ pub record Ready (ks ps ns m w : List ℕ) : Type 0 where
   pub columns : Columns ks ps ns
   pub below : PlacesBelow ps (length m)
   pub table : Table
-  pub words : InWords table w
+  pub words : Plain table w
   pub found : Found ks ps ns m (heldNames table)
 
 pub record Filled (ks ps ns : List ℕ) (t : Table) (r : ℕ) (w : List ℕ) : Type 0 where
@@ -66,4 +67,15 @@ pub record Filled (ks ps ns : List ℕ) (t : Table) (r : ℕ) (w : List ℕ) : T
   pub count : r ≡ length (namesAmong (heldNames t) ks ps ns)
 
 pub record Fills (ks ps ns m w : List ℕ) (r : ℕ) (w′ : List ℕ) : Type 0 where
-  pub run : (t : Table) → InWords t w → Found ks ps ns m (heldNames t) → Filled ks ps ns t r w′
+  pub run : (t : Table) → Plain t w → Found ks ps ns m (heldNames t) → Filled ks ps ns t r w′
+
+-- HeldWords and Writes, once the index is cleared
+pub record PlainWords (c : Cursor) (w : List ℕ) : Type 0 where
+  pub table : Table
+  pub counts : Counts table c
+  pub words : Plain table w
+  pub long : length w ≡ wordsLength
+  pub room : Room c
+
+pub record WritesPlain (ks ps ns : List ℕ) (c : Cursor) (w : List ℕ) (r : ℕ) (w′ : List ℕ) : Type 0 where
+  pub run : (x : Lexed) (t : Table) → ColumnsOf x ks ps ns → Counts t c → Plain t w → NamesIn x t r w′

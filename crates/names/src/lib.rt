@@ -1,5 +1,6 @@
 // The names of a table, written into the lent slice when the text is read. Each name of the text is listed at its first place; those that an entry holds
 // are struck out; the ones struck out are written, in the order of the tokens.
+use erasing::clear_index;
 use table::Cursor;
 use table::DECLARATION_WORDS;
 use table::DECLARATIONS_AT;
@@ -21,7 +22,7 @@ ghost use Rattle.definition.specs.Lent.{wordsLength};
 ghost use Rattle.table.specs.Held.{Room};
 ghost use Rattle.laws.specs.Columns.{Columns};
 ghost use Rattle.names.specs.Names.{isFirst, HeldWords, Writes};
-ghost use Rattle.names.specs.Striking.{column, smallText, lastPlace, PlacesBelow, Listed, Struck, Strikes, Ready, Fills};
+ghost use Rattle.names.specs.Striking.{column, smallText, lastPlace, PlacesBelow, Listed, Struck, Strikes, Ready, Fills, PlainWords, WritesPlain};
 
 // A text has at most as many bytes.
 pub const MAX_TEXT: usize = 32768;
@@ -169,8 +170,8 @@ fn fill(
 ) -> usize
     requires { ⌜ Columns (now kinds) (now places) (now numbers) ⌝ }
     requires { ⌜ PlacesBelow (now places) (length (now listed)) ⌝ }
-    requires { ⌜ HeldWords c (now w) ⌝ }
-    ensures { λ r. ⌜ Writes (now (kinds .entry)) (now (places .entry)) (now (numbers .entry)) c (now (w .entry)) r (now (w .exit)) ⌝ }
+    requires { ⌜ PlainWords c (now w) ⌝ }
+    ensures { λ r. ⌜ WritesPlain (now (kinds .entry)) (now (places .entry)) (now (numbers .entry)) c (now (w .entry)) r (now (w .exit)) ⌝ }
 {
     list(kinds, places, numbers, listed);
     strike_all(w, c, listed);
@@ -181,8 +182,8 @@ fn fill(
 fn fill_small(kinds: &[u32], places: &[u32], numbers: &[u64], w: &mut [u32], c: Cursor) -> usize
     requires { ⌜ Columns (now kinds) (now places) (now numbers) ⌝ }
     requires { ⌜ PlacesBelow (now places) smallText ⌝ }
-    requires { ⌜ HeldWords c (now w) ⌝ }
-    ensures { λ r. ⌜ Writes (now (kinds .entry)) (now (places .entry)) (now (numbers .entry)) c (now (w .entry)) r (now (w .exit)) ⌝ }
+    requires { ⌜ PlainWords c (now w) ⌝ }
+    ensures { λ r. ⌜ WritesPlain (now (kinds .entry)) (now (places .entry)) (now (numbers .entry)) c (now (w .entry)) r (now (w .exit)) ⌝ }
 {
     let mut listed = [0u32; SMALL_TEXT];
     fill(kinds, places, numbers, &mut listed, w, c)
@@ -191,8 +192,8 @@ fn fill_small(kinds: &[u32], places: &[u32], numbers: &[u64], w: &mut [u32], c: 
 // Tokens stand wherever a text has bytes.
 fn fill_large(kinds: &[u32], places: &[u32], numbers: &[u64], w: &mut [u32], c: Cursor) -> usize
     requires { ⌜ Columns (now kinds) (now places) (now numbers) ⌝ }
-    requires { ⌜ HeldWords c (now w) ⌝ }
-    ensures { λ r. ⌜ Writes (now (kinds .entry)) (now (places .entry)) (now (numbers .entry)) c (now (w .entry)) r (now (w .exit)) ⌝ }
+    requires { ⌜ PlainWords c (now w) ⌝ }
+    ensures { λ r. ⌜ WritesPlain (now (kinds .entry)) (now (places .entry)) (now (numbers .entry)) c (now (w .entry)) r (now (w .exit)) ⌝ }
 {
     let mut listed = [0u32; MAX_TEXT];
     fill(kinds, places, numbers, &mut listed, w, c)
@@ -209,12 +210,13 @@ fn last_place(places: &[u32]) -> u32
     places[count - 1]
 }
 
-// Fills the names' part of the slice with the names that the table's entries hold; their number. The columns are those of a text's tokens.
+// Fills the names' part of the slice, in place of the index, with the names that the table's entries hold; their number. The columns are those of a text's tokens.
 pub fn fill_names(kinds: &[u32], places: &[u32], numbers: &[u64], w: &mut [u32], c: Cursor) -> usize
     requires { ⌜ Columns (now kinds) (now places) (now numbers) ⌝ }
     requires { ⌜ HeldWords c (now w) ⌝ }
     ensures { λ r. ⌜ Writes (now (kinds .entry)) (now (places .entry)) (now (numbers .entry)) c (now (w .entry)) r (now (w .exit)) ⌝ }
 {
+    clear_index(w);
     if (last_place(places) as usize) < SMALL_TEXT {
         return fill_small(kinds, places, numbers, w, c);
     }

@@ -255,7 +255,7 @@ module _ (ks ns : List ℕ) (m : Model) (room : ℕ) {c : Cursor} {s : Steps} {w
     unfolding direct₁
     by-nothing e f = record {
       does = record {
-        run = λ b h. by (a-direct (tokens ks ns) m (s .held) (state c b) z) (nay! _ _ _ i (nay! _ _ _ (sym (q .of b (h .words) (h .counts)) ∙ e)
+        run = λ b h. by (a-direct (tokens ks ns) m (s .held) (state c b) z) (nay! _ _ _ i (nay! _ _ _ (sym (q .of b (h .words) (h .index) (h .counts)) ∙ e)
             (by (after-none (tokens ks ns) m (levels (tokens ks ns) m (room - 1)) s o noName _ (state c b) refl) (f .does .run b h))));
       };
       stars = f .stars;
@@ -269,7 +269,7 @@ module _ (ks ns : List ℕ) (m : Model) (room : ℕ) {c : Cursor} {s : Steps} {w
         a ← needed (tokens ks ns) closeParen (y .1)
         suffixes (tokens ks ns) m (levels (tokens ks ns) m (room - 1)) (s .held) (y .0) a)
       unfolding direct₁
-      inner-is b h = a-direct (tokens ks ns) m (s .held) (state c b) z ∙ (nay _ _ _ i ∙ yes _ _ _ (sym (q .of b (h .words) (h .counts)) ∙ e))
+      inner-is b h = a-direct (tokens ks ns) m (s .held) (state c b) z ∙ (nay _ _ _ i ∙ yes _ _ _ (sym (q .of b (h .words) (h .index) (h .counts)) ∙ e))
 
       module _ {c′ : Cursor} {t : Declared} {w₁ d₁ : List ℕ} {v₁ : List ℤ} (k : c′ ≡ movedTo c (c .at + 1))
           (g : Declares (levels (tokens ks ns) m (room - 1) .declarator (s .held)) c′ s w d v t w₁ d₁ v₁) where
@@ -280,7 +280,7 @@ module _ (ks ns : List ℕ) (m : Model) (room : ℕ) {c : Cursor} {s : Steps} {w
           pub not-closed : {r : Declared} {u : Steps} → (j ≡ closeParen → ⊥) → r ≡ record { answer = Refused missingMark (e′ .at); steps = u }
               → Declares (levels (tokens ks ns) m room .direct (s .held)) c s w d v r w₁ d₁ v₁
           not-closed n l = stops (ap (λ a. a .answer) l) (λ b h. by (inner-is b h) (call _ (step-on k (g .does) h) (declared-is t y)
-              (λ b₁ h₁. missed (tokens ks ns) (state e′ b₁) _ p n (no! refl))))
+              (λ b₁ h₁. missed (tokens ks ns) (state e′ b₁) _ p n (no! h₁ refl))))
 
           pub closed : {e″ : Cursor} {r : Declared} {w′ d′ : List ℕ} {v′ : List ℤ} → j ≡ closeParen → e″ ≡ movedTo e′ (e′ .at + 1)
               → Declares (suffixes (tokens ks ns) m (levels (tokens ks ns) m (room - 1)) (t .steps .held) (declaratorOf (t .steps) name)) e″ (t .steps) w₁ d₁ v₁ r w′ d′ v′
@@ -361,7 +361,7 @@ module _ {ks ns : List ℕ} {m : Model} {room name : ℕ} {c : Cursor} {s : Step
     module _ {x : Bool} (q : x ≡ leb maxSteps (t .held + t .len)) where
       pub full : {r : Declared} → x ≡ true → r ≡ record { answer = Refused limitPassed (here .at + 1); steps = t }
           → Declares (suffixes (tokens ks ns) m (levels (tokens ks ns) m room) (s .held) (declaratorOf s name)) c s w₀ d₀ v₀ r w d v
-      full e i = stops (ap (λ y. y .answer) i) (λ b h. turn (g .going b h) (λ b₁ f l h₁. by (full-is f (state here b₁) (sym (p .is)) a (leb-true maxSteps (t .held + t .len) (sym q ∙ e))) (no! refl)))
+      full e i = stops (ap (λ y. y .answer) i) (λ b h. turn (g .going b h) (λ b₁ f l h₁. by (full-is f (state here b₁) (sym (p .is)) a (leb-true maxSteps (t .held + t .len) (sym q ∙ e))) (no! h₁ refl)))
 
       module _ (e : x ≡ false) where
         low : t .held + t .len < maxSteps

@@ -16,10 +16,6 @@ use Rattle.entry.specs.Answers.{countsOf, out, answered}
 use Rattle.entry.specs.declared.Counts.{Counts}
 use Rattle.entry.specs.declared.Outcome.{Outcome}
 
--- where the names begin in the 32-bit numbers
-abbrev pub namesAt : ℕ
-namesAt = 46080
-
 abbrev pub cursorOf : Counts → Cursor
 cursorOf c = record { at = 0; rows = c .rows; members = c .members; values = c .values; parameters = c .parameters; declarations = c .declarations }
 

@@ -5,15 +5,12 @@ use entry::Outcome;
 use entry::declaration;
 use entry::translation_unit;
 use listing::put_listing;
-use names::NAMES_AT;
 use printing::put_refused;
 use table::Cursor;
 use words::model::Model;
 use words::model::ModelFound;
 ghost use mathlib.Core.Path.{_≡_};
-ghost use mathlib.Core.List.{_++_};
-ghost use Prim.Native.Nat.{_≤_};
-ghost use lib.ListN.{length, take, drop};
+ghost use lib.ListN.{length};
 ghost use Rattle.definition.specs.Model.{modelOf};
 ghost use Rattle.definition.specs.Entry.{outcome, wholeHeader, singleDeclaration};
 ghost use Rattle.definition.specs.Lent.{longEnough, leftIn};
@@ -21,7 +18,7 @@ ghost use Rattle.definition.specs.Listing.{orLp64, printedOutcome};
 ghost use Rattle.clearing.specs.Slices.{lent};
 ghost use Rattle.printing.specs.Written.{Wrote};
 ghost use Rattle.words.specs.Meaning.{model};
-ghost use Rattle.reports.specs.Printed.{namesAt, cursorOf, Table, Lists, Answered, Prints};
+ghost use Rattle.reports.specs.Printed.{cursorOf, Table, Lists, Answered, Prints};
 
 // More than any listing has: that of an accepted text is at most `maxListing` bytes long (crate `lengths`).
 pub const LISTING: usize = 1048576;
@@ -63,20 +60,7 @@ fn cursor_of(counts: Counts) -> Cursor
     }
 }
 
-// The 32-bit numbers before the names.
-fn copy_table(w: &[u32], table: &mut [u32])
-    requires { ⌜ namesAt ≤ length (now w) ⌝ }
-    requires { ⌜ namesAt ≤ length (now table) ⌝ }
-    ensures { λ r. ⌜ now (table .exit) ≡ take namesAt (now (w .entry)) ++ drop namesAt (now (table .entry)) ⌝ }
-{
-    let mut i = 0;
-    while i < NAMES_AT {
-        table[i] = w[i];
-        i = i + 1;
-    }
-}
-
-// The listing is made from slices that hold no names, as while a text is read.
+// The slices may be longer than a table: it stands in their front.
 fn put_table(
     out: &mut [u8],
     text: &[u8],
@@ -89,14 +73,12 @@ fn put_table(
     requires { ⌜ Table counts (now w) (now d) (now v) ⌝ }
     ensures { λ r. ⌜ Lists (now (text .entry)) (model m) counts (now (w .entry)) (now (d .entry)) (now (v .entry)) (now (out .entry)) 0 (now (out .exit)) r ⌝ }
 {
-    let mut table = [0u32; WORDS];
-    copy_table(w, &mut table);
     put_listing(
         out,
         0,
         text,
         m,
-        &table,
+        &w[..WORDS],
         &d[..WIDES],
         &v[..SIGNEDS],
         cursor_of(counts),

@@ -6,10 +6,10 @@ use mathlib.Core.List.{List, [], _∷_}
 use Prim.Native.Nat.{ℕ, zero, suc, _+_, _-_, _*_, _≤_, _<_}
 use native.Mathlib.Omega.{arith}
 use native.Mathlib.Numerals.{add-one}
-use lib.Dec.{eqb}
+use lib.Dec.{eqb, ltb}
 use lib.ListN.{length, getD, drop}
-use lib.Seq.{drop-cons, drop-length}
-use borrow.Author.Tests.{eq-eqb, ne-eqb}
+use lib.Seq.{drop-cons, drop-nil}
+use borrow.Author.Tests.{eq-eqb, ne-eqb, eqb-true, ltb-true, ltb-false}
 use Rattle.table.proofs.Branch.{yes, nay, and-left, or-left}
 use Rattle.definition.specs.Row.{Row, void, kindOf, targetOf, rowName}
 use Rattle.definition.specs.Table.{Table, rowAt}
@@ -25,6 +25,11 @@ unfoldable pub firstRow : (ℕ → Row → Bool) → ℕ → List Row → Option
 firstRow test n [] = none
 firstRow test n (r ∷ rs) = elim (test n r) [ true ↦ some n | false ↦ firstRow test (suc n) rs ]
 
+drop-past : {E : Type 0} (es : List E) (i : ℕ) → length es ≤ i → drop i es ≡ []
+drop-past [] i p = drop-nil i
+drop-past (e ∷ es) zero p = absurd (omega arith)
+drop-past (e ∷ es) (suc i) p = drop-past es i (omega arith)
+
 module _ (test : ℕ → Row → Bool) (rows : List Row) (i : ℕ) where
   look : i < length rows → firstRow test i (drop i rows) ≡ elim (test i (getD rows i void)) [ true ↦ some i | false ↦ firstRow test (suc i) (drop (suc i) rows) ]
   unfolding firstRow
@@ -36,9 +41,19 @@ module _ (test : ℕ → Row → Bool) (rows : List Row) (i : ℕ) where
   pub look-no : i < length rows → test i (getD rows i void) ≡ false → firstRow test i (drop i rows) ≡ firstRow test (i + 1) (drop (i + 1) rows)
   look-no p e = rw add-one (look p ∙ rw e)
 
-  pub look-end : i ≡ length rows → firstRow test i (drop i rows) ≡ none
+  pub look-end : length rows ≤ i → firstRow test i (drop i rows) ≡ none
   unfolding firstRow
-  look-end e = rw (e, drop-length)
+  look-end e = rw (drop-past rows i e)
+
+-- rows that do not pass, and places after the last, are skipped
+module _ (test : ℕ → Row → Bool) (rows : List Row) where
+  pub look-skip : (r : ℕ) → ((i : ℕ) → i < length rows → i < r → test i (getD rows i void) ≡ false) → firstRow test 0 rows ≡ firstRow test r (drop r rows)
+  look-skip zero f = refl
+  look-skip (suc r) f = look-skip r (λ i p q. f i p (omega arith)) ∙ go (ltb r (length rows)) refl
+    where
+      go : (z : Bool) → ltb r (length rows) ≡ z → firstRow test r (drop r rows) ≡ firstRow test (suc r) (drop (suc r) rows)
+      go true e = let q : r < length rows = ltb-true _ _ e in look test rows r q ∙ rw (f r q (omega arith))
+      go false e = let q : length rows ≤ r = ltb-false _ _ e in look-end test rows r q ∙ sym (look-end test rows (suc r) (omega arith))
 
 -- a name is searched so
 abbrev pub namedTest : ℕ → ℕ → ℕ → Row → Bool
@@ -86,6 +101,14 @@ and-true : (b : Bool) → b ≡ (b && true)
 and-true true = refl
 and-true false = refl
 
+-- a row that has not both
+pub not-named : (kind name i : ℕ) (x : Row) → (kindOf x ≡ kind → rowName x ≡ name → ⊥) → namedTest kind name i x ≡ false
+not-named kind name i x q = go (eqb (kindOf x) kind) refl
+  where
+    go : (z : Bool) → eqb (kindOf x) kind ≡ z → (z && eqb (rowName x) name) ≡ false
+    go true e = ne-eqb (rowName x) name (q (eqb-true (kindOf x) kind e))
+    go false e = refl
+
 -- a row's numbers as they stand in the slice
 module _ {t : Table} {w : List ℕ} (h : InWords t w) (i : ℕ) (p : i < maxRows) where
   pub kind-is : getD w (6 * i) 0 ≡ kindOf (rowAt t i)
@@ -104,6 +127,10 @@ module _ {t : Table} {w : List ℕ} (h : InWords t w) (i : ℕ) (p : i < maxRows
     pub same-name : getD w (6 * i + 3) 0 ≡ name → eqb (getD w (6 * i) 0) kind ≡ namedTest kind name i (rowAt t i)
     same-name q = ap (λ z. eqb z kind) kind-is ∙ (and-true (eqb (kindOf (rowAt t i)) kind) ∙ sym (ap (λ b. eqb (kindOf (rowAt t i)) kind && b) (eq-eqb (rowName (rowAt t i)) name (sym name-is ∙ q))))
 
--- a slice that holds a table has all rows
+-- a slice that holds a table has its length
+pub all-there : {t : Table} {w : List ℕ} → InWords t w → (length w ≡ wordsLength → ⊥) → ⊥
+all-there {t} {w} h p = p (rw (h .are) (words-long t (h .fits) (h .rest) (h .long)))
+
+-- and so all rows
 pub all-rows : {t : Table} {w : List ℕ} → InWords t w → length w < 6144 → ⊥
-all-rows {t} {w} h p = let e : length w ≡ wordsLength = rw (h .are) (words-long t (h .fits)) in omega arith
+all-rows {t} {w} h p = all-there h (λ e. omega arith)

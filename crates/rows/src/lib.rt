@@ -1,9 +1,10 @@
 // Rows looked through and found by name.
 use table::Cursor;
-use table::MEMBERS_AT;
 use table::Numbers;
 use table::ROW_WORDS;
 use table::Step;
+use table::WORDS;
+use table::first_named;
 use table::push_row;
 use table::row_kind;
 use table::row_target;
@@ -105,16 +106,16 @@ fn is_named(w: &[u32], i: usize, kind: u32, name: u32) -> bool
     w[at] == kind
 }
 
-// The first row of a kind and a name. A slice shorter than all rows holds no table.
+// The first row of a kind and a name, from the one on that the index has. A slice of another length holds no table.
 pub fn row_named(w: &[u32], c: Cursor, kind: u32, name: u32) -> Found
     requires { ⌜ Room c ⌝ }
     ensures { λ r. ⌜ Finds (λ t. rowNamed kind name 0 (t .rows)) c (now (w .entry)) r ⌝ }
 {
-    if w.len() < MEMBERS_AT {
+    if w.len() != WORDS {
         return Found::Nothing;
     }
     let rows = c.rows;
-    let mut i = 0;
+    let mut i = first_named(w, kind, name);
     while i < rows {
         if is_named(w, i, kind, name) {
             return Found::At(i as u32);

@@ -4,12 +4,12 @@ use mathlib.Core.List.{List, [], _∷_, _++_, append-assoc}
 use Prim.Native.Nat.{ℕ, zero, suc, _+_, _-_, _*_, _≤_, _<_}
 use native.Mathlib.Omega.{arith}
 use lib.IntN.{ℤ, pos}
-use lib.ListN.{length, replicate, length-replicate, replicate-append-replicate}
+use lib.ListN.{length, getD, replicate, length-replicate, getD-replicate, replicate-append-replicate}
 use Rattle.definition.specs.Limit.{maxRows, maxMembers, maxValues, maxParameters, maxDeclarations, maxNames}
 use Rattle.definition.specs.Row.{Row, void, kindOf, targetOf, flagsOf, rowName, spanOf, extentOf}
 use Rattle.definition.specs.Table.{Table, newTable}
-use Rattle.definition.specs.Lent.{padded, flat, rowWords, memberWords, valueWords, parameterWords, declarationWords, rowWides, memberWides, valueSigneds, words, tableWords, wides, signeds, wordsLength, widesLength, signedsLength}
-use Rattle.table.specs.Held.{readingWords, Fits, Encodes}
+use Rattle.definition.specs.Lent.{padded, flat, rowWords, memberWords, valueWords, parameterWords, declarationWords, rowWides, memberWides, valueSigneds, tableWords, wides, signeds, wordsLength, widesLength, signedsLength}
+use Rattle.table.specs.Held.{readingWords, marksAt, countsOf, Fits, BoundedAt, Encodes}
 use Rattle.table.specs.declared.Cursor.{Cursor}
 
 module _ {E : Type 0} (z : E) where
@@ -49,11 +49,11 @@ module _ (a b c d e f : ℕ) where
 abbrev pub firstCursor : Cursor
 firstCursor = record { at = 0; rows = 1; members = 0; values = 0; parameters = 0; declarations = 0 }
 
-words-zero : (n : ℕ) → n ≡ wordsLength → readingWords newTable ≡ replicate n 0
-unfolding readingWords words tableWords flat kindOf targetOf flagsOf rowName spanOf padded
+words-zero : (n : ℕ) → n ≡ wordsLength → readingWords newTable (replicate (2 * maxNames) 0) ≡ replicate n 0
+unfolding readingWords tableWords flat kindOf targetOf flagsOf rowName spanOf padded
 words-zero n p = six (6 * maxRows) (4 * maxMembers) (2 * maxValues) (3 * maxParameters) (3 * maxDeclarations) (2 * maxNames) _ _ _ _ _ _
     (all-zero 0 (6 * maxRows) 6 (omega arith)) (all-zero 0 (4 * maxMembers) 0 (omega arith)) (all-zero 0 (2 * maxValues) 0 (omega arith)) (all-zero 0 (3 * maxParameters) 0 (omega arith))
-    (all-zero 0 (3 * maxDeclarations) 0 (omega arith)) (all-zero 0 (2 * maxNames) 0 (omega arith))
+    (all-zero 0 (3 * maxDeclarations) 0 (omega arith)) refl
     ∙ (let e : 78848 ≡ n = sym p in ap (λ m. replicate m 0) e)
 
 wides-zero : (n : ℕ) → n ≡ widesLength → wides newTable ≡ replicate n 0
@@ -65,6 +65,21 @@ signeds-zero : (n : ℕ) → n ≡ signedsLength → signeds newTable ≡ replic
 unfolding signeds flat
 signeds-zero n p = all-zero (pos 0) maxValues 0 (omega arith) ∙ (let e : 4096 ≡ n = sym p in ap (λ m. replicate m (pos 0)) e)
 
+-- row 0 has no name
+first-row : (i : ℕ) → i < length (newTable .rows) → BoundedAt (getD (newTable .rows) i void) i (replicate (2 * maxNames) 0)
+unfolding rowName
+first-row zero p = record { some = λ q. absurd (omega arith); first = λ q. absurd (omega arith) }
+first-row (suc i) p = absurd (omega arith)
+
+-- the first row is the only entry, and its number is 0
+no-more : (k : ℕ) → getD (countsOf firstCursor) k 0 ≤ getD (replicate (2 * maxNames) 0) (marksAt + k) 0 + 1
+no-more zero = omega arith
+no-more (suc zero) = omega arith
+no-more (suc (suc zero)) = omega arith
+no-more (suc (suc (suc zero))) = omega arith
+no-more (suc (suc (suc (suc zero)))) = omega arith
+no-more (suc (suc (suc (suc (suc k))))) = omega arith
+
 -- slices of zeros, as long as the limits ask, hold the first table
 pub fresh : (w d : List ℕ) (v : List ℤ) → length w ≡ wordsLength → length d ≡ widesLength → length v ≡ signedsLength
     → w ≡ replicate (length w) 0 → d ≡ replicate (length d) 0 → v ≡ replicate (length v) (pos 0) → Encodes newTable firstCursor w d v
@@ -72,7 +87,9 @@ fresh w d v p q r a b c =
     let f : Fits newTable = record { rows = omega arith; members = omega arith; values = omega arith; parameters = omega arith; declarations = omega arith } in
     record {
       counts = record { rows = refl; members = refl; values = refl; parameters = refl; declarations = refl };
-      words = record { fits = f; are = a ∙ sym (words-zero (length w) p) };
+      words = record { fits = f; rest = replicate (2 * maxNames) 0; long = length-replicate {A = ℕ} (2 * maxNames) 0; are = a ∙ sym (words-zero (length w) p) };
+      index = record { rows = first-row; values = λ i p. absurd (omega arith) };
+      marks = record { last = no-more; blank = λ j p q. getD-replicate (2 * maxNames) j 0 0 (omega arith) };
       wides = record { fits = f; are = b ∙ sym (wides-zero (length d) q) };
       signeds = record { fits = f; are = c ∙ sym (signeds-zero (length v) r) };
     }

@@ -20,16 +20,16 @@ zeros (suc k) (suc j) = zeros k j
 
 module _ {t : Table} {w : List ℕ} {b r : ℕ} (p : Peek w b r) (h : InWords t w) (i j : ℕ) where
   pub row-read : i < maxRows → j < 6 → b ≡ 6 * i + j → r ≡ getD (rowWords (rowAt t i)) j 0
-  row-read l q e = p .is ∙ rw (h .are) (row-word t (h .fits) i j b l q e)
+  row-read l q e = p .is ∙ rw (h .are) (row-word t (h .fits) (h .rest) i j b l q e)
 
   pub member-read : i < maxMembers → j < 4 → b ≡ 6144 + (4 * i + j) → r ≡ getD (memberWords (memberAt t i)) j 0
-  member-read l q e = p .is ∙ rw (h .are) (member-word t (h .fits) i j b l q e)
+  member-read l q e = p .is ∙ rw (h .are) (member-word t (h .fits) (h .rest) i j b l q e)
 
   pub value-read : i < maxValues → j < 2 → b ≡ 22528 + (2 * i + j) → r ≡ getD (valueWords (valueAt t i)) j 0
-  value-read l q e = p .is ∙ rw (h .are) (value-word t (h .fits) i j b l q e)
+  value-read l q e = p .is ∙ rw (h .are) (value-word t (h .fits) (h .rest) i j b l q e)
 
   pub parameter-read : i < maxParameters → j < 3 → b ≡ 30720 + (3 * i + j) → r ≡ getD (parameterWords (parameterAt t i)) j 0
-  parameter-read l q e = p .is ∙ rw (h .are) (parameter-word t (h .fits) i j b l q e)
+  parameter-read l q e = p .is ∙ rw (h .are) (parameter-word t (h .fits) (h .rest) i j b l q e)
 
 module _ {t : Table} {d : List ℕ} {b r : ℕ} (p : Peek d b r) (h : InWides t d) (i : ℕ) where
   pub extent-read : i < maxRows → b ≡ i → r ≡ extentOf (rowAt t i)

@@ -4,5 +4,6 @@ pub mod Branch
 pub mod Shown
 pub mod Steps
 pub mod Rounds
+pub mod Index
 pub mod Leaves
 pub mod Columns

@@ -7,7 +7,7 @@ use lib.IntN.{ℤ}
 use Rattle.definition.specs.Answer.{Answer, got, refused, _>>=_}
 use Rattle.definition.specs.Table.{Table, State, Reads}
 use Rattle.table.specs.Ends.{Ends}
-use Rattle.table.specs.Held.{state, movedTo, Counts, Encodes, Long, Room, Held}
+use Rattle.table.specs.Held.{state, movedTo, Counts, Encodes, Long, Room, Held, Left}
 use Rattle.table.specs.Reply.{Reply, ok, bad, Shown, Shows, done, stop, Runs, Does, both, Changes}
 use Rattle.table.specs.declared.Cursor.{Cursor}
 use Rattle.table.proofs.Branch.{via, halt}
@@ -17,7 +17,7 @@ use Rattle.table.proofs.Regions.{words-long, wides-long, signeds-long}
 module _ {t : Table} {c : Cursor} {w d : List ℕ} {v : List ℤ} (e : Encodes t c w d v) where
   pub long : Long w d v
   long = record {
-    words = rw (e .words .are) (words-long t (e .words .fits));
+    words = rw (e .words .are) (words-long t (e .words .fits) (e .words .rest) (e .words .long));
     wides = rw (e .wides .are) (wides-long t (e .wides .fits));
     signeds = rw (e .signeds .are) (signeds-long t (e .signeds .fits));
   }
@@ -31,6 +31,9 @@ module _ {t : Table} {c : Cursor} {w d : List ℕ} {v : List ℤ} (e : Encodes t
     declarations = rw (e .counts .declarations) (e .words .fits .declarations);
   }
 
+  pub left : Left w d v
+  left = record { cursor = c; table = t; encodes = e }
+
   pub held : Held c w d v
   held = record { table = t; encodes = e; long = long; room = room }
 
@@ -39,6 +42,8 @@ module _ {t : Table} {c : Cursor} {w d : List ℕ} {v : List ℤ} (e : Encodes t
   at-other i = record {
     counts = record { rows = e .counts .rows; members = e .counts .members; values = e .counts .values; parameters = e .counts .parameters; declarations = e .counts .declarations };
     words = e .words;
+    index = e .index;
+    marks = e .marks;
     wides = e .wides;
     signeds = e .signeds;
   }
@@ -55,8 +60,12 @@ module _ {X B : Type 0} {pack : X → State → B} {w d : List ℕ} {v : List �
   pub got-at : {c m : Cursor} {k : ℕ} {i : X} {t : Table} → m ≡ movedTo c k → Encodes t c w d v → Shows pack (got (pack i (state (movedTo c k) t))) (ok m i) w d v
   got-at {k = k} e h = rw e (got! (at-other h k))
 
-  pub no! : {r : Reply X} {n p : ℕ} → r ≡ bad n p → Shows pack (refused n p) r w d v
-  no! q = record { ends = stop _ _ refl q }
+  -- a refusal, by whatever table the slices hold then
+  pub no! : {t : Table} {c : Cursor} {r : Reply X} {n p : ℕ} → Encodes t c w d v → r ≡ bad n p → Shows pack (refused n p) r w d v
+  no! h q = record { ends = stop _ _ refl q (left h) }
+
+  pub no-left : {r : Reply X} {n p : ℕ} → Left w d v → r ≡ bad n p → Shows pack (refused n p) r w d v
+  no-left l q = record { ends = stop _ _ refl q l }
 
 -- what a call that was done says
 pub record Went {X B : Type 0} (pack : X → State → B) (a : Answer B) (c : Cursor) (i : X) (w d : List ℕ) (v : List ℤ) : Type 0 where
@@ -70,7 +79,7 @@ module _ {X B : Type 0} {pack : X → State → B} {a : Answer B} {r : Reply X} 
       let x : c′ ≡ c = cc in
       let y : i′ ≡ i = cc in
       record { table = t; says = rw (x, y) at p; holds = subst (λ (z : Cursor). Encodes t z w d v) x e }
-  went′ (stop n m p q) h = let z : _≡_ {A = ℕ} 0 1 = cc in absurd (omega arith)
+  went′ (stop n m p q l) h = let z : _≡_ {A = ℕ} 0 1 = cc in absurd (omega arith)
 
   pub went : {c : Cursor} {i : X} → Shows pack a r w d v → r ≡ ok c i → Went pack a c i w d v
   went h q = went′ (h .ends) q
@@ -78,7 +87,11 @@ module _ {X B : Type 0} {pack : X → State → B} {a : Answer B} {r : Reply X} 
   -- what a call that was refused says
   pub said : {n m : ℕ} → Shown pack a r w d v → r ≡ bad n m → a ≡ refused n m
   said (done t c′ i′ p q e) h = let z : _≡_ {A = ℕ} 0 1 = cc in absurd (omega arith)
-  said (stop n m p q) h = cc
+  said (stop n m p q l) h = cc
+
+  pub leaves : {n m : ℕ} → Shown pack a r w d v → r ≡ bad n m → Left w d v
+  leaves (done t c′ i′ p q e) h = let z : _≡_ {A = ℕ} 0 1 = cc in absurd (omega arith)
+  leaves (stop n m p q l) h = l
 
   -- a call that was done, with what it left: the rest is shown for whatever table that is
   pub call : {D : Type 0} {Q : Answer D → Type 0} {c : Cursor} {i : X} (k : B → Answer D)
@@ -87,12 +100,12 @@ module _ {X B : Type 0} {pack : X → State → B} {a : Answer B} {r : Reply X} 
 
   -- a call that was refused, and its answer returned
   pub fail : {n p : ℕ} (k : B → Answer B) → Shows pack a r w d v → r ≡ bad n p → Shows pack (a >>= k) r w d v
-  fail k h q = halt k (said (h .ends) q) (no! q)
+  fail k h q = halt k (said (h .ends) q) (no-left (leaves (h .ends) q) q)
 
   -- the same, by an answer of another type
-  pub refuse : {Y D : Type 0} {pack′ : Y → State → D} {r′ : Reply Y} {w′ d′ : List ℕ} {v′ : List ℤ} {n p : ℕ} (k : B → Answer D)
-      → Shows pack a r w d v → r ≡ bad n p → r′ ≡ bad n p → Shows pack′ (a >>= k) r′ w′ d′ v′
-  refuse k h q z = halt k (said (h .ends) q) (no! z)
+  pub refuse : {Y D : Type 0} {pack′ : Y → State → D} {r′ : Reply Y} {n p : ℕ} (k : B → Answer D)
+      → Shows pack a r w d v → r ≡ bad n p → r′ ≡ bad n p → Shows pack′ (a >>= k) r′ w d v
+  refuse k h q z = halt k (said (h .ends) q) (no-left (leaves (h .ends) q) z)
 
 -- a call after a step in the tokens
 module _ {X B : Type 0} {pack : X → State → B} {f : State → Answer B} {w d w′ d′ : List ℕ} {v v′ : List ℤ} {r : Reply X} where

@@ -2,3 +2,4 @@ pub mod Ends
 pub mod Held
 pub mod Reply
 pub mod Store
+pub mod Noting

@@ -8,7 +8,7 @@ use Rattle.definition.specs.Answer.{Answer, got, refused}
 use Rattle.definition.specs.Row.{Row, kindOf, targetOf, flagsOf, rowName, spanOf, extentOf}
 use Rattle.definition.specs.Table.{Table, State, Reads}
 use Rattle.table.specs.Ends.{Ends}
-use Rattle.table.specs.Held.{state, Encodes, InWords, InWides, InSigneds}
+use Rattle.table.specs.Held.{state, Encodes, InWords, InWides, InSigneds, Left}
 use Rattle.table.specs.declared.Cursor.{Cursor}
 use Rattle.table.specs.declared.Numbers.{Numbers}
 use Rattle.table.specs.declared.Step.{Step}
@@ -39,10 +39,10 @@ both i s = (i, s)
 abbrev pub alone : Nothing → State → State
 alone i s = s
 
--- An answer and the slices say what the definition answers; where it refuses, the slices say nothing.
+-- An answer and the slices say what the definition answers; where it refuses, the slices hold some table, so that what stands in them can be found and cleared.
 pub data Shown {X B : Type 0} (pack : X → State → B) (a : Answer B) (r : Reply X) (w d : List ℕ) (v : List ℤ) : Type 0 where
   done : (t : Table) (c : Cursor) (i : X) → a ≡ got (pack i (state c t)) → r ≡ ok c i → Encodes t c w d v → Shown pack a r w d v
-  stop : (n p : ℕ) → a ≡ refused n p → r ≡ bad n p → Shown pack a r w d v
+  stop : (n p : ℕ) → a ≡ refused n p → r ≡ bad n p → Left w d v → Shown pack a r w d v
 
 abbrev pub Shows : {X B : Type 0} → (X → State → B) → Answer B → Reply X → List ℕ → List ℕ → List ℤ → Type 0
 Shows pack a r w d v = Ends (λ b. Shown pack b r w d v) a

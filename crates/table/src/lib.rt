@@ -8,17 +8,21 @@
 //   declarations  43,008 + 3 * i  storage type name
 //   names         46,080 + 2 * i  offset length
 //
-// A width is 0 for a plain member, else 1 more than the bit-field's. Names are zero while the text is read. A cursor goes along by value: the
+// A width is 0 for a plain member, else 1 more than the bit-field's. While the text is read an index stands in the place of the names (Held.antt). A cursor goes along by value: the
 // token not yet read, and how many of each there are; entries after these are zero, so that every read is total: 0 past the end.
 ghost use mathlib.Core.Path.{_≡_};
-ghost use Prim.Native.Nat.{ℕ, _+_, _≤_, _<_};
-ghost use lib.ListN.{length, getD};
+ghost use Prim.Native.Nat.{ℕ, _+_, _-_, _*_, _≤_, _<_};
+ghost use lib.Dec.{eqb};
+ghost use lib.ListN.{length, getD, set};
+ghost use Rattle.definition.specs.Limit.{maxRows};
+ghost use Rattle.definition.specs.RowKind.{typedefKind};
 ghost use Rattle.definition.specs.Row.{kindOf, targetOf, flagsOf, rowName, spanOf, extentOf};
 ghost use Rattle.definition.specs.Table.{rowAt, storageNumber, pushRow, pushMember, pushValue, pushParameter, pushDeclaration};
 ghost use Rattle.definition.specs.Types.{widthNumber};
 ghost use Rattle.definition.specs.Lent.{rowWords, memberWords, memberWides, valueWords, parameterWords, wordsLength, widesLength, signedsLength};
-ghost use Rattle.table.specs.Held.{movedTo, memberAt, valueAt, parameterAt, Held, Room};
+ghost use Rattle.table.specs.Held.{halfOf, indexed, boundFor, valueSlot, movedTo, memberAt, valueAt, parameterAt, Held, Room};
 ghost use Rattle.table.specs.Reply.{step, numbers, Does, DoesAs, Changes, ChangesAs, WordIs, WideIs, SignedIs, Peek};
+ghost use Rattle.table.specs.Noting.{Sooner, Lowered, NotesRow, NotesTop, NoneBefore};
 ghost use Rattle.table.specs.Store.{memberPushed, valuePushed, parameterPushed, declarationPushed, rowSet, memberRowSet, memberPlaceSet, valueRowSet, parameterRowSet, ChangesWords, ChangesWides};
 
 // Limits, and where each region begins.
@@ -49,6 +53,37 @@ pub const PARAMETER_WORDS: usize = 3;
 pub const DECLARATIONS_AT: usize = 43008;
 
 pub const DECLARATION_WORDS: usize = 3;
+
+// The index, in the place of the names: a number for the values of a name and one for its rows.
+pub const INDEX_AT: usize = 46080;
+
+pub const ROW_INDEX_AT: usize = 46081;
+
+pub const WORDS: usize = 78848;
+
+const MAX_NAMES: u32 = 16384;
+
+// Names that have numbers of their own in the index.
+const INDEXED: u32 = 16381;
+
+// A row's number in the index is the bound for type names and, times this, the one for tags.
+const TAG_BOUND: u32 = 65536;
+
+// The kind of a type name's row.
+const TYPEDEF_KIND: u32 = 10;
+
+// After the index: the number of the last entry of each region, and where the index is blank from.
+pub const LAST_ROW: usize = 78842;
+
+pub const LAST_MEMBER: usize = 78843;
+
+pub const LAST_VALUE: usize = 78844;
+
+pub const LAST_PARAMETER: usize = 78845;
+
+pub const LAST_DECLARATION: usize = 78846;
+
+pub const TOP: usize = 78847;
 
 pub const MEMBER_WIDES_AT: usize = 1024;
 
@@ -307,6 +342,105 @@ pub fn parameter_name(w: &[u32], i: usize) -> u32
     parameter_word(w, i, 2)
 }
 
+// ---- the index
+
+// Where a name's two numbers stand in the index.
+pub fn name_slot(name: u32) -> usize
+    ensures { λ r. ⌜ (r ≡ 2 * halfOf name) × (halfOf name < indexed) ⌝ }
+{
+    2 * ((name / 2 % MAX_NAMES % INDEXED) as usize)
+}
+
+// The index is blank after the numbers of a name, if it was before.
+fn note_top(w: &mut [u32], name: u32)
+    requires { ⌜ length (now w) ≡ wordsLength ⌝ }
+    ensures { λ r. ⌜ NotesTop name (now (w .entry)) (now (w .exit)) ⌝ }
+{
+    let end = (name_slot(name) + 2) as u32;
+    if w[TOP] < end {
+        w[TOP] = end;
+    }
+}
+
+// A bound that is not later than it was, nor than a row: 0 is none.
+fn sooner(bound: u32, row: u32) -> u32
+    ensures { λ r. ⌜ Sooner bound row r ⌝ }
+{
+    if bound == 0 {
+        return row;
+    }
+    if row < bound {
+        return row;
+    }
+    bound
+}
+
+// A noted number with a row of a kind, counted from 1.
+fn lowered(noted: u32, kind: u32, row: u32) -> u32
+    requires { ⌜ (0 < row) × (row ≤ maxRows) ⌝ }
+    ensures { λ r. ⌜ Lowered (eqb kind typedefKind) row noted r ⌝ }
+{
+    let names = noted % TAG_BOUND;
+    let tags = noted / TAG_BOUND;
+    if kind == TYPEDEF_KIND {
+        return tags * TAG_BOUND + sooner(names, row);
+    }
+    sooner(tags, row) * TAG_BOUND + names
+}
+
+// Row n has the kind and the name: no search for them begins after n.
+fn note_row(w: &mut [u32], kind: u32, name: u32, n: usize)
+    requires { ⌜ (length (now w) ≡ wordsLength) × (n < maxRows) ⌝ }
+    ensures { λ r. ⌜ NotesRow kind name n (now (w .entry)) (now (w .exit)) ⌝ }
+{
+    if name == 0 {
+        return;
+    }
+    let at = ROW_INDEX_AT + name_slot(name);
+    w[at] = lowered(w[at], kind, (n + 1) as u32);
+}
+
+// Value n has the name: every search for it begins at n or after it.
+fn note_value(w: &mut [u32], name: u32, n: usize)
+    requires { ⌜ (length (now w) ≡ wordsLength) × (n < 4096) ⌝ }
+    ensures { λ r. ⌜ now (w .exit) ≡ set (now (w .entry)) (46080 + valueSlot name) (n + 1) ⌝ }
+{
+    w[INDEX_AT + name_slot(name)] = (n + 1) as u32;
+}
+
+// The bound for rows of a kind in a noted number.
+fn bound_for(noted: u32, kind: u32) -> u32
+    ensures { λ r. ⌜ r ≡ boundFor kind noted ⌝ }
+{
+    if kind == TYPEDEF_KIND {
+        return noted % TAG_BOUND;
+    }
+    noted / TAG_BOUND
+}
+
+// A row that is counted from 1.
+fn row_before(bound: u32) -> usize
+    requires { ⌜ 0 < bound ⌝ }
+    ensures { λ r. ⌜ r ≡ bound - 1 ⌝ }
+{
+    bound as usize - 1
+}
+
+// Where a search for a row of a kind and a name begins: no row before has both.
+pub fn first_named(w: &[u32], kind: u32, name: u32) -> usize
+    requires { ⌜ length (now w) ≡ wordsLength ⌝ }
+    ensures { λ r. ⌜ NoneBefore kind name (now (w .entry)) r ⌝ }
+{
+    if name == 0 {
+        return 0;
+    }
+    let bound = bound_for(w[ROW_INDEX_AT + name_slot(name)], kind);
+    if bound == 0 {
+        return MAX_ROWS;
+    }
+    row_before(bound)
+}
+
 // ---- stores
 
 // The next row: refused where there are as many as may be.
@@ -318,6 +452,9 @@ pub fn push_row(w: &mut [u32], d: &mut [u64], v: &mut [i64], c: Cursor, row: Num
     if MAX_ROWS <= n {
         return Step::Refused(LIMIT_PASSED, c.at);
     }
+    note_top(w, row.name);
+    note_row(w, row.kind, row.name, n);
+    w[LAST_ROW] = n as u32;
     let b = ROW_WORDS * n;
     w[b] = row.kind;
     w[b + 1] = row.target;
@@ -358,6 +495,7 @@ pub fn push_member(
     if MAX_MEMBERS <= n {
         return Step::Refused(LIMIT_PASSED, c.at);
     }
+    w[LAST_MEMBER] = n as u32;
     let b = MEMBERS_AT + MEMBER_WORDS * n;
     w[b] = row;
     w[b + 1] = ty;
@@ -396,6 +534,9 @@ pub fn push_value(
     if MAX_VALUES <= n {
         return Step::Refused(LIMIT_PASSED, c.at);
     }
+    note_top(w, name);
+    note_value(w, name, n);
+    w[LAST_VALUE] = n as u32;
     let b = VALUES_AT + VALUE_WORDS * n;
     w[b] = row;
     w[b + 1] = name;
@@ -430,6 +571,7 @@ pub fn push_parameter(
     if MAX_PARAMETERS <= n {
         return Step::Refused(LIMIT_PASSED, c.at);
     }
+    w[LAST_PARAMETER] = n as u32;
     let b = PARAMETERS_AT + PARAMETER_WORDS * n;
     w[b] = row;
     w[b + 1] = ty;
@@ -464,6 +606,7 @@ pub fn push_declaration(
     if MAX_DECLARATIONS <= n {
         return Step::Refused(LIMIT_PASSED, c.at);
     }
+    w[LAST_DECLARATION] = n as u32;
     let b = DECLARATIONS_AT + DECLARATION_WORDS * n;
     w[b] = storage;
     w[b + 1] = ty;
@@ -488,6 +631,8 @@ pub fn set_row(w: &mut [u32], d: &mut [u64], v: &mut [i64], c: Cursor, n: u32, r
 {
     let i = n as usize;
     if i < c.rows {
+        note_top(w, row.name);
+        note_row(w, row.kind, row.name, i);
         let b = ROW_WORDS * i;
         w[b] = row.kind;
         w[b + 1] = row.target;

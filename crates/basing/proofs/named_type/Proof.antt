@@ -31,7 +31,7 @@ is-name-requires c κs = search needs
 
 returns : tie.Need-returns
 unfolding namedType
-returns c = record { run = λ t h. nay! _ _ _ (ap isName (sym (c .before .before .kind-at .ensures .is)) ∙ (sym (c .before .is-name .ensures) ∙ not-true _ (c .if1 .taken))) (no! refl) }
+returns c = record { run = λ t h. nay! _ _ _ (ap isName (sym (c .before .before .kind-at .ensures .is)) ∙ (sym (c .before .is-name .ensures) ∙ not-true _ (c .if1 .taken))) (no! h refl) }
 
 name-at-requires : tie.Need-name-at-requires
 name-at-requires c κs = c .before .before .before .before .before .before .before .before .pre .1 .fit _ (ap isName (sym (c .before .before .before .kind-at .ensures .is)) ∙ (sym (c .before .before .is-name .ensures) ∙ not-false _ (c .before .if1 .left)))
@@ -48,7 +48,7 @@ same-length c = search needs
 returns-2 : tie.Need-returns-2
 unfolding namedType
 returns-2 c = let is = ap isName (sym (c .before .before .before .before .before .before .before .before .kind-at .ensures .is)) ∙ (sym (c .before .before .before .before .before .before .before .is-name .ensures) ∙ not-false _ (c .before .before .before .before .before .before .if1 .left)) in
-    record { run = λ t h. yes! _ _ _ is (some! _ _ _ (ap (λ z. typedefRow t z) (sym (c .before .before .before .before .name-at .ensures .is)) ∙ (sym (c .before .before .before .typedef-row .ensures .of t (h .words) (h .counts)) ∙ ap found (c .before .f .given .1))) (got! h)) }
+    record { run = λ t h. yes! _ _ _ is (some! _ _ _ (ap (λ z. typedefRow t z) (sym (c .before .before .before .before .name-at .ensures .is)) ∙ (sym (c .before .before .before .typedef-row .ensures .of t (h .words) (h .index) (h .counts)) ∙ ap found (c .before .f .given .1))) (got! h)) }
 
 enum-told : tie.Need-enum-told
 enum-told c = search needs
@@ -69,8 +69,8 @@ returns-3 : tie.Need-returns-3
 unfolding namedType
 returns-3 c = let is = ap isName (sym (c .before .before .before .before .before .before .before .before .before .before .kind-at .ensures .is)) ∙ (sym (c .before .before .before .before .before .before .before .before .before .is-name .ensures) ∙ not-false _ (c .before .before .before .before .before .before .before .before .if1 .left)) in
     record {
-      run = λ t h. yes! _ _ _ is (none! _ _ _ (ap (λ z. typedefRow t z) (sym (c .before .before .before .before .before .before .name-at .ensures .is)) ∙ (sym (c .before .before .before .before .before .typedef-row .ensures .of t (h .words) (h .counts)) ∙ ap found (c .before .before .before .enum-told .given .1)))
-          (none-added _ _ _ (sym (c .enum-told2 .given .1) ∙ (c .before .before .builtin .ensures ∙ ap (λ z. known (builtin (model (c .before .before .before .before .before .before .before .before .before .before .before .before .before .before .before .args .m)) z)) (c .before .before .before .before .before .before .before .before .before .before .kind-at .ensures .is))) (no! refl)));
+      run = λ t h. yes! _ _ _ is (none! _ _ _ (ap (λ z. typedefRow t z) (sym (c .before .before .before .before .before .before .name-at .ensures .is)) ∙ (sym (c .before .before .before .before .before .typedef-row .ensures .of t (h .words) (h .index) (h .counts)) ∙ ap found (c .before .before .before .enum-told .given .1)))
+          (none-added _ _ _ (sym (c .enum-told2 .given .1) ∙ (c .before .before .builtin .ensures ∙ ap (λ z. known (builtin (model (c .before .before .before .before .before .before .before .before .before .before .before .before .before .before .before .args .m)) z)) (c .before .before .before .before .before .before .before .before .before .before .kind-at .ensures .is))) (no! h refl)));
     }
 
 add-base-requires : tie.Need-add-base-requires
@@ -89,7 +89,7 @@ returns-4 : tie.Need-returns-4
 unfolding namedType
 returns-4 c = let is = ap isName (sym (c .before .before .before .before .before .before .before .before .before .before .before .before .before .before .before .before .before .before .before .before .kind-at .ensures .is)) ∙ (sym (c .before .before .before .before .before .before .before .before .before .before .before .before .before .before .before .before .before .before .before .is-name .ensures) ∙ not-false _ (c .before .before .before .before .before .before .before .before .before .before .before .before .before .before .before .before .before .before .if1 .left)) in
     record {
-      run = λ t h. yes! _ _ _ is (none! _ _ _ (ap (λ z. typedefRow t z) (sym (c .before .before .before .before .before .before .before .before .before .before .before .before .before .before .before .before .name-at .ensures .is)) ∙ (sym (c .before .before .before .before .before .before .before .before .before .before .before .before .before .before .before .typedef-row .ensures .of t (h .words) (h .counts)) ∙ ap found (c .before .before .before .before .before .before .before .before .before .before .before .before .before .enum-told .given .1)))
+      run = λ t h. yes! _ _ _ is (none! _ _ _ (ap (λ z. typedefRow t z) (sym (c .before .before .before .before .before .before .before .before .before .before .before .before .before .before .before .before .name-at .ensures .is)) ∙ (sym (c .before .before .before .before .before .before .before .before .before .before .before .before .before .before .before .typedef-row .ensures .of t (h .words) (h .index) (h .counts)) ∙ ap found (c .before .before .before .before .before .before .before .before .before .before .before .before .before .enum-told .given .1)))
           (added _ _ (builtin-plain _ _) (sym (c .before .before .before .before .before .before .before .before .before .before .k .given .1) ∙ (c .before .before .before .before .before .before .before .before .before .before .before .before .builtin .ensures ∙ ap (λ z. known (builtin (model (c .before .before .before .before .before .before .before .before .before .before .before .before .before .before .before .before .before .before .before .before .before .before .before .before .before .args .m)) z)) (c .before .before .before .before .before .before .before .before .before .before .before .before .before .before .before .before .before .before .before .before .kind-at .ensures .is))) (c .before .before .before .before .before .add-base .ensures) h));
     }
 

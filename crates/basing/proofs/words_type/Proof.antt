@@ -34,7 +34,7 @@ enum-told-2 c = search needs
 
 returns-2 : tie.Need-returns-2
 unfolding wordsType
-returns-2 c = record { run = λ t h. none! _ _ _ (ap base (c .before .before .before .enum-told .given .1)) (none-added _ _ _ (sym (c .enum-told2 .given .1) ∙ c .before .before .combine .ensures) (no! refl)) }
+returns-2 c = record { run = λ t h. none! _ _ _ (ap base (c .before .before .before .enum-told .given .1)) (none-added _ _ _ (sym (c .enum-told2 .given .1) ∙ c .before .before .combine .ensures) (no! h refl)) }
 
 add-base-requires : tie.Need-add-base-requires
 add-base-requires c κs = search needs

@@ -28,7 +28,7 @@ use lib.ListN.{length}
 use mir.Syntax.{w64}
 use mir.Val.{toZ}
 use Rattle.arithmetic.proofs.Told.{back}
-use Rattle.constants.specs.Lookup.{lastValue}
+use Rattle.constants.specs.Lookup.{knownValue}
 use Rattle.constants.specs.Reading.{tokens}
 use Rattle.table.specs.Ends.{Ends}
 use Rattle.table.proofs.Branch.{by, yes!, nay!, eq+, eq-, lt+, lt-}
@@ -68,8 +68,8 @@ abbrev unary-below : ℕ → In 4 unary-kinds.ps
 unary-below t = and 4 unary-kinds.ps (falls 4 unary-kinds.ps _<_ μ-unary t) unary.Pre
 
 abbrev binary-Inv-loop : binary-lts.InvT-loop
-binary-Inv-loop kinds numbers words values count low room x s₀ left₀ s left = Ends (Going (tokens kinds numbers) (lastValue words values count) (level (tokens kinds numbers) (lastValue words values count) (room - 1)) low (toZ w64 left) (s .at))
-    (operatorsFrom (tokens kinds numbers) (lastValue words values count) (level (tokens kinds numbers) (lastValue words values count) (room - 1)) (suc (length kinds - s₀ .at)) low (toZ w64 left₀) (s₀ .at))
+binary-Inv-loop kinds numbers words values count low room x s₀ left₀ s left = Ends (Going (tokens kinds numbers) (knownValue words values count) (level (tokens kinds numbers) (knownValue words values count) (room - 1)) low (toZ w64 left) (s .at))
+    (operatorsFrom (tokens kinds numbers) (knownValue words values count) (level (tokens kinds numbers) (knownValue words values count) (room - 1)) (suc (length kinds - s₀ .at)) low (toZ w64 left₀) (s₀ .at))
 
 abbrev binary-μ-loop : binary-lts.MeasureT-loop
 binary-μ-loop kinds numbers words values count low room x s₀ left₀ s left = length kinds - s .at

@@ -24,7 +24,7 @@ kind-at-requires : tie.Need-kind-at-requires
 kind-at-requires c κs = search needs
 
 returns : tie.Need-returns
-returns c = record { of = λ t w h. sym (shut _ _ _ (no-kind (c .before .kind-at .ensures) (c .if1 .taken))) }
+returns c = record { of = λ t w x h. sym (shut _ _ _ (no-kind (c .before .kind-at .ensures) (c .if1 .taken))) }
 
 add-kind-at : tie.Need-add-kind-at
 add-kind-at c = omega (arith, there (c .before .kind-at .ensures) (c .if1 .left))
@@ -33,16 +33,16 @@ kind-at-requires-2 : tie.Need-kind-at-requires-2
 kind-at-requires-2 c κs = search needs
 
 returns-2 : tie.Need-returns-2
-returns-2 c = record { of = λ t w h. sym (by-star _ _ _ (of-kind (c .before .before .before .kind-at .ensures) (c .before .before .if1 .left)) (of-kind (c .before .kind-at2 .ensures) (c .if2 .taken))) }
+returns-2 c = record { of = λ t w x h. sym (by-star _ _ _ (of-kind (c .before .before .before .kind-at .ensures) (c .before .before .if1 .left)) (of-kind (c .before .kind-at2 .ensures) (c .if2 .taken))) }
 
 returns-3 : tie.Need-returns-3
-returns-3 c = record { of = λ t w h. sym (by-paren _ _ _ (of-kind (c .before .before .before .before .kind-at .ensures) (c .before .before .before .if1 .left)) (no-kind (c .before .before .kind-at2 .ensures) (c .before .if2 .left)) (of-kind (c .before .before .kind-at2 .ensures) (c .if3 .taken))) }
+returns-3 c = record { of = λ t w x h. sym (by-paren _ _ _ (of-kind (c .before .before .before .before .kind-at .ensures) (c .before .before .before .if1 .left)) (no-kind (c .before .before .kind-at2 .ensures) (c .before .if2 .left)) (of-kind (c .before .before .kind-at2 .ensures) (c .if3 .taken))) }
 
 is-name-requires : tie.Need-is-name-requires
 is-name-requires c κs = search needs
 
 returns-4 : tie.Need-returns-4
-returns-4 c = record { of = λ t w h. sym (no-name _ _ _ (of-kind (c .before .before .before .before .before .before .kind-at .ensures) (c .before .before .before .before .before .if1 .left)) (no-kind (c .before .before .before .before .kind-at2 .ensures) (c .before .before .before .if2 .left)) (no-kind (c .before .before .before .before .kind-at2 .ensures) (c .before .before .if3 .left)) (ap isName (sym (c .before .before .before .before .kind-at2 .ensures .is)) ∙ (sym (c .before .is-name .ensures) ∙ not-true _ (c .if4 .taken)))) }
+returns-4 c = record { of = λ t w x h. sym (no-name _ _ _ (of-kind (c .before .before .before .before .before .before .kind-at .ensures) (c .before .before .before .before .before .if1 .left)) (no-kind (c .before .before .before .before .kind-at2 .ensures) (c .before .before .before .if2 .left)) (no-kind (c .before .before .before .before .kind-at2 .ensures) (c .before .before .if3 .left)) (ap isName (sym (c .before .before .before .before .kind-at2 .ensures .is)) ∙ (sym (c .before .is-name .ensures) ∙ not-true _ (c .if4 .taken)))) }
 
 add-name-at : tie.Need-add-name-at
 add-name-at c = omega (arith, there (c .before .before .before .before .before .before .kind-at .ensures) (c .before .before .before .before .before .if1 .left))
@@ -58,8 +58,8 @@ enum-told c = search needs
 
 returns-5 : tie.Need-returns-5
 returns-5 c = record {
-  of = λ t w h. sym (of-typedef _ _ _ (of-kind (c .before .before .before .before .before .before .before .before .before .before .kind-at .ensures) (c .before .before .before .before .before .before .before .before .before .if1 .left)) (no-kind (c .before .before .before .before .before .before .before .before .kind-at2 .ensures) (c .before .before .before .before .before .before .before .if2 .left)) (no-kind (c .before .before .before .before .before .before .before .before .kind-at2 .ensures) (c .before .before .before .before .before .before .if3 .left)) (ap isName (sym (c .before .before .before .before .before .before .before .before .kind-at2 .ensures .is)) ∙ (sym (c .before .before .before .before .before .is-name .ensures) ∙ not-false _ (c .before .before .before .before .if4 .left)))
-      (ap (λ z. typedefRow t z) (sym (c .before .before .before .name-at .ensures .is)) ∙ (sym (c .before .before .typedef-row .ensures .of t w h) ∙ ap found (c .enum-told .given .1))));
+  of = λ t w x h. sym (of-typedef _ _ _ (of-kind (c .before .before .before .before .before .before .before .before .before .before .kind-at .ensures) (c .before .before .before .before .before .before .before .before .before .if1 .left)) (no-kind (c .before .before .before .before .before .before .before .before .kind-at2 .ensures) (c .before .before .before .before .before .before .before .if2 .left)) (no-kind (c .before .before .before .before .before .before .before .before .kind-at2 .ensures) (c .before .before .before .before .before .before .if3 .left)) (ap isName (sym (c .before .before .before .before .before .before .before .before .kind-at2 .ensures .is)) ∙ (sym (c .before .before .before .before .before .is-name .ensures) ∙ not-false _ (c .before .before .before .before .if4 .left)))
+      (ap (λ z. typedefRow t z) (sym (c .before .before .before .name-at .ensures .is)) ∙ (sym (c .before .before .typedef-row .ensures .of t w x h) ∙ ap found (c .enum-told .given .1))));
 }
 
 enum-told-2 : tie.Need-enum-told-2
@@ -76,15 +76,15 @@ enum-told-4 c = search needs
 
 returns-6 : tie.Need-returns-6
 returns-6 c = record {
-  of = λ t w h. sym (of-builtin _ _ _ (of-kind (c .before .before .before .before .before .before .before .before .before .before .before .before .before .kind-at .ensures) (c .before .before .before .before .before .before .before .before .before .before .before .before .if1 .left)) (no-kind (c .before .before .before .before .before .before .before .before .before .before .before .kind-at2 .ensures) (c .before .before .before .before .before .before .before .before .before .before .if2 .left)) (no-kind (c .before .before .before .before .before .before .before .before .before .before .before .kind-at2 .ensures) (c .before .before .before .before .before .before .before .before .before .if3 .left)) (ap isName (sym (c .before .before .before .before .before .before .before .before .before .before .before .kind-at2 .ensures .is)) ∙ (sym (c .before .before .before .before .before .before .before .before .is-name .ensures) ∙ not-false _ (c .before .before .before .before .before .before .before .if4 .left)))
-      (ap (λ z. typedefRow t z) (sym (c .before .before .before .before .before .before .name-at .ensures .is)) ∙ (sym (c .before .before .before .before .before .typedef-row .ensures .of t w h) ∙ ap found (c .before .before .before .enum-told2 .given .1)))
+  of = λ t w x h. sym (of-builtin _ _ _ (of-kind (c .before .before .before .before .before .before .before .before .before .before .before .before .before .kind-at .ensures) (c .before .before .before .before .before .before .before .before .before .before .before .before .if1 .left)) (no-kind (c .before .before .before .before .before .before .before .before .before .before .before .kind-at2 .ensures) (c .before .before .before .before .before .before .before .before .before .before .if2 .left)) (no-kind (c .before .before .before .before .before .before .before .before .before .before .before .kind-at2 .ensures) (c .before .before .before .before .before .before .before .before .before .if3 .left)) (ap isName (sym (c .before .before .before .before .before .before .before .before .before .before .before .kind-at2 .ensures .is)) ∙ (sym (c .before .before .before .before .before .before .before .before .is-name .ensures) ∙ not-false _ (c .before .before .before .before .before .before .before .if4 .left)))
+      (ap (λ z. typedefRow t z) (sym (c .before .before .before .before .before .before .name-at .ensures .is)) ∙ (sym (c .before .before .before .before .before .typedef-row .ensures .of t w x h) ∙ ap found (c .before .before .before .enum-told2 .given .1)))
       (a-row _ (sym (c .enum-told3 .given .1) ∙ (c .before .before .builtin .ensures ∙ ap (λ z. known (builtin (model (c .before .before .before .before .before .before .before .before .before .before .before .before .before .before .before .before .before .args .m)) z)) (c .before .before .before .before .before .before .before .before .before .before .before .kind-at2 .ensures .is))) .there));
 }
 
 returns-7 : tie.Need-returns-7
 returns-7 c = record {
-  of = λ t w h. sym (of-none _ _ _ (of-kind (c .before .before .before .before .before .before .before .before .before .before .before .before .before .kind-at .ensures) (c .before .before .before .before .before .before .before .before .before .before .before .before .if1 .left)) (no-kind (c .before .before .before .before .before .before .before .before .before .before .before .kind-at2 .ensures) (c .before .before .before .before .before .before .before .before .before .before .if2 .left)) (no-kind (c .before .before .before .before .before .before .before .before .before .before .before .kind-at2 .ensures) (c .before .before .before .before .before .before .before .before .before .if3 .left)) (ap isName (sym (c .before .before .before .before .before .before .before .before .before .before .before .kind-at2 .ensures .is)) ∙ (sym (c .before .before .before .before .before .before .before .before .is-name .ensures) ∙ not-false _ (c .before .before .before .before .before .before .before .if4 .left)))
-      (ap (λ z. typedefRow t z) (sym (c .before .before .before .before .before .before .name-at .ensures .is)) ∙ (sym (c .before .before .before .before .before .typedef-row .ensures .of t w h) ∙ ap found (c .before .before .before .enum-told2 .given .1)))
+  of = λ t w x h. sym (of-none _ _ _ (of-kind (c .before .before .before .before .before .before .before .before .before .before .before .before .before .kind-at .ensures) (c .before .before .before .before .before .before .before .before .before .before .before .before .if1 .left)) (no-kind (c .before .before .before .before .before .before .before .before .before .before .before .kind-at2 .ensures) (c .before .before .before .before .before .before .before .before .before .before .if2 .left)) (no-kind (c .before .before .before .before .before .before .before .before .before .before .before .kind-at2 .ensures) (c .before .before .before .before .before .before .before .before .before .if3 .left)) (ap isName (sym (c .before .before .before .before .before .before .before .before .before .before .before .kind-at2 .ensures .is)) ∙ (sym (c .before .before .before .before .before .before .before .before .is-name .ensures) ∙ not-false _ (c .before .before .before .before .before .before .before .if4 .left)))
+      (ap (λ z. typedefRow t z) (sym (c .before .before .before .before .before .before .name-at .ensures .is)) ∙ (sym (c .before .before .before .before .before .typedef-row .ensures .of t w x h) ∙ ap found (c .before .before .before .enum-told2 .given .1)))
       (no-row _ (sym (c .enum-told4 .given .1) ∙ (c .before .before .builtin .ensures ∙ ap (λ z. known (builtin (model (c .before .before .before .before .before .before .before .before .before .before .before .before .before .before .before .before .before .args .m)) z)) (c .before .before .before .before .before .before .before .before .before .before .before .kind-at2 .ensures .is)))));
 }
 

@@ -29,7 +29,7 @@ same-length c = search needs
 returns : tie.Need-returns
 unfolding defineTypedef
 returns c = record {
-  run = λ t h. some! (typedefRow t (c .before .before .before .before .before .before .before .before .before .before .args .name)) _ _ (sym (c .before .before .before .before .before .before .typedef-row .ensures .of t (h .words) (h .counts)) ∙ ap found (c .before .before .before .before .f .given .1))
+  run = λ t h. some! (typedefRow t (c .before .before .before .before .before .before .before .before .before .before .args .name)) _ _ (sym (c .before .before .before .before .before .before .typedef-row .ensures .of t (h .words) (h .index) (h .counts)) ∙ ap found (c .before .before .before .before .f .given .1))
       (eq+ _ _ _ _ (sym (c .before .row-target .ensures .of t (h .words)) ∙ c .if1 .taken) (got! h));
 }
 
@@ -39,8 +39,8 @@ same-length-2 c = search needs
 returns-2 : tie.Need-returns-2
 unfolding defineTypedef
 returns-2 c = record {
-  run = λ t h. some! (typedefRow t (c .before .before .before .before .before .before .before .before .before .before .args .name)) _ _ (sym (c .before .before .before .before .before .before .typedef-row .ensures .of t (h .words) (h .counts)) ∙ ap found (c .before .before .before .before .f .given .1))
-      (eq- _ _ _ _ (λ e. c .if1 .left (c .before .row-target .ensures .of t (h .words) ∙ e)) (no! refl));
+  run = λ t h. some! (typedefRow t (c .before .before .before .before .before .before .before .before .before .before .args .name)) _ _ (sym (c .before .before .before .before .before .before .typedef-row .ensures .of t (h .words) (h .index) (h .counts)) ∙ ap found (c .before .before .before .before .f .given .1))
+      (eq- _ _ _ _ (λ e. c .if1 .left (c .before .row-target .ensures .of t (h .words) ∙ e)) (no! h refl));
 }
 
 enum-told : tie.Need-enum-told
@@ -61,7 +61,7 @@ same-length-5 c = search needs
 returns-3 : tie.Need-returns-3
 unfolding defineTypedef kindOf targetOf flagsOf rowName spanOf extentOf
 returns-3 c = record {
-  run = λ t h. none! (typedefRow t (c .before .before .before .before .before .before .before .before .before .before .before .before .before .before .before .args .name)) _ _ (sym (c .before .before .before .before .before .before .before .before .before .before .before .typedef-row .ensures .of t (h .words) (h .counts)) ∙ ap found (c .before .before .before .before .before .before .before .before .before .enum-told .given .1))
+  run = λ t h. none! (typedefRow t (c .before .before .before .before .before .before .before .before .before .before .before .before .before .before .before .args .name)) _ _ (sym (c .before .before .before .before .before .before .before .before .before .before .before .typedef-row .ensures .of t (h .words) (h .index) (h .counts)) ∙ ap found (c .before .before .before .before .before .before .before .before .before .enum-told .given .1))
       (c .before .before .before .before .before .push-row .ensures .of (typedef (c .before .before .before .before .before .before .before .before .before .before .before .before .before .before .before .args .name) (c .before .before .before .before .before .before .before .before .before .before .before .before .before .before .before .args .ty)) refl .run t h);
 }
 

@@ -18,7 +18,7 @@ returns c = record { with = λ ns m w d v. record { run = λ t h. is+ _ _ (c .be
 
 returns-2 : tie.Need-returns-2
 unfolding nothingMore
-returns-2 c = record { with = λ ns m w d v. record { run = λ t h. is- _ _ (c .before .kind-at .ensures) (c .if1 .left) (no! refl) } }
+returns-2 c = record { with = λ ns m w d v. record { run = λ t h. is- _ _ (c .before .kind-at .ensures) (c .if1 .left) (no! h refl) } }
 
 pub nothing-more-spec : {M : Type 1} → statement M
 nothing-more-spec = tie.close (tie.spec kind-at-requires returns returns-2)

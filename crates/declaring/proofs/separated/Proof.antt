@@ -30,7 +30,7 @@ returns-2 c = record { with = λ ns m w d v. record { run = λ t h. is- _ _ (c .
 
 returns-3 : tie.Need-returns-3
 unfolding separated
-returns-3 c = record { with = λ ns m w d v. record { run = λ t h. is- _ _ (c .before .before .kind-at .ensures) (c .before .if1 .left) (is- _ _ (c .before .before .kind-at .ensures) (c .if2 .left) (no! refl)) } }
+returns-3 c = record { with = λ ns m w d v. record { run = λ t h. is- _ _ (c .before .before .kind-at .ensures) (c .before .if1 .left) (is- _ _ (c .before .before .kind-at .ensures) (c .if2 .left) (no! h refl)) } }
 
 pub separated-spec : {M : Type 1} → statement M
 separated-spec =

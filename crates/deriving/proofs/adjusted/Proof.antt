@@ -65,7 +65,7 @@ same-length-7 c = search needs
 
 returns-3 : tie.Need-returns-3
 unfolding adjusted
-returns-3 c = record { run = λ t h. eq- _ _ _ _ (λ e. c .before .before .if1 .left (c .before .before .before .resolved-kind .ensures .of t (h .words) ∙ e)) (eq- _ _ _ _ (λ e. c .before .if2 .left (c .before .before .before .resolved-kind .ensures .of t (h .words) ∙ e)) (eq+ _ _ _ _ (sym (c .before .before .before .resolved-kind .ensures .of t (h .words)) ∙ c .if3 .taken) (no! refl))) }
+returns-3 c = record { run = λ t h. eq- _ _ _ _ (λ e. c .before .before .if1 .left (c .before .before .before .resolved-kind .ensures .of t (h .words) ∙ e)) (eq- _ _ _ _ (λ e. c .before .if2 .left (c .before .before .before .resolved-kind .ensures .of t (h .words) ∙ e)) (eq+ _ _ _ _ (sym (c .before .before .before .resolved-kind .ensures .of t (h .words)) ∙ c .if3 .taken) (no! h refl))) }
 
 same-length-8 : tie.Need-same-length-8
 same-length-8 c = search needs

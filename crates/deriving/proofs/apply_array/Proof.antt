@@ -22,7 +22,7 @@ same-length c = search needs
 
 returns : tie.Need-returns
 unfolding apply
-returns c = record { of = λ n e. record { run = λ t h. eq+ _ _ _ _ (sym (c .before .resolved-kind .ensures .of t (h .words)) ∙ c .if1 .taken) (no! refl) } }
+returns c = record { of = λ n e. record { run = λ t h. eq+ _ _ _ _ (sym (c .before .resolved-kind .ensures .of t (h .words)) ∙ c .if1 .taken) (no! h refl) } }
 
 add-row-requires : tie.Need-add-row-requires
 add-row-requires c κs = search needs

@@ -25,14 +25,14 @@ same-length c = search needs
 
 returns : tie.Need-returns
 unfolding apply
-returns c = record { run = λ t h. yes! _ _ _ (or-left _ (eq-eqb _ _ (sym (c .before .resolved-kind .ensures .of t (h .words)) ∙ c .if1 .taken))) (no! refl) }
+returns c = record { run = λ t h. yes! _ _ _ (or-left _ (eq-eqb _ _ (sym (c .before .resolved-kind .ensures .of t (h .words)) ∙ c .if1 .taken))) (no! h refl) }
 
 same-length-2 : tie.Need-same-length-2
 same-length-2 c = search needs
 
 returns-2 : tie.Need-returns-2
 unfolding apply
-returns-2 c = record { run = λ t h. yes! _ _ _ (or-right (eqb (resolvedKind t (c .before .before .before .before .before .before .args .b)) 5) (eq-eqb _ _ (sym (c .before .before .resolved-kind .ensures .of t (h .words)) ∙ c .if2 .taken))) (no! refl) }
+returns-2 c = record { run = λ t h. yes! _ _ _ (or-right (eqb (resolvedKind t (c .before .before .before .before .before .before .args .b)) 5) (eq-eqb _ _ (sym (c .before .before .resolved-kind .ensures .of t (h .words)) ∙ c .if2 .taken))) (no! h refl) }
 
 returned-requires : tie.Need-returned-requires
 returned-requires c κs = search needs

@@ -3,9 +3,9 @@ use Rattle.entry.proofs.read_small.Statement.{statement}
 use Rattle.entry.proofs.read_small.Tie as tie
 use Rattle.entry.proofs.read_small.Reads as reads
 use Rattle.entry.proofs.read_small.Lts as lts
-use Rattle.entry.proofs.read_front.Reads as read-front-reads
 use Rattle.entry.proofs.conclude.Reads as conclude-reads
 use Rattle.entry.proofs.long_enough.Reads as long-enough-reads
+use Rattle.entry.proofs.read_front.Reads as read-front-reads
 use Rattle.entry.proofs.reject.Reads as reject-reads
 use Rattle.words.proofs.model.Model.numbered.Reads as numbered-reads
 use mathlib.Core.Path.{refl, sym, ap, _∙_}
@@ -46,7 +46,7 @@ same-length-3 : tie.Need-same-length-3
 same-length-3 c = search needs
 
 returns : tie.Need-returns
-returns c = answer-known _ _ _ _ _ _ _ _ (ap modelFound (sym (c .before .before .before .before .before .before .before .before .before .before .before .before .before .before .before .before .before .before .before .before .before .before .before .before .before .before .before .found .given .1)) ∙ c .before .before .before .before .before .before .before .before .before .before .before .before .before .before .before .before .before .before .before .before .before .before .before .before .before .before .before .before .before .numbered .ensures) (tells-concluded _ _ _ _ _ _ (enough _ _ _ (sym (c .before .before .before .before .before .before .before .before .before .before .before .before .before .before .before .before .before .before .before .before .before .before .before .before .before .long-enough .ensures) ∙ c .before .before .before .before .before .before .before .before .before .before .before .before .before .before .before .before .before .before .before .before .before .before .before .before .if1 .taken)) _ _ _ _ (c .before .before .before .before .before .before .before .before .before .before .before .before .before .before .before .before .before .read-front .ensures) _ _ _ _ (c .before .before .before .before .before .before .before .before .before .before .before .before .before .before .before .before .before .read-front .kept .1 .1 .1 .1 .1 .1 .0) (c .before .before .before .before .before .before .before .before .before .before .before .before .before .before .before .before .before .read-front .kept .1 .1 .1 .1 .1 .1 .1 .0) (c .before .before .before .before .before .before .before .before .before .before .before .before .before .before .before .before .before .read-front .kept .1 .1 .1 .1 .1 .1 .1 .1 .0) (c .before .before .before .before .before .conclude .ensures))
+returns c = answer-known _ _ _ _ _ _ _ _ (ap modelFound (sym (c .before .before .before .before .before .before .before .before .before .before .before .before .before .before .before .before .before .before .before .found .given .1)) ∙ c .before .before .before .before .before .before .before .before .before .before .before .before .before .before .before .before .before .before .before .before .before .numbered .ensures) (tells-concluded _ _ _ _ _ _ (enough _ _ _ (sym (c .before .before .before .before .before .before .before .before .before .before .before .before .before .before .before .before .before .long-enough .ensures) ∙ c .before .before .before .before .before .before .before .before .before .before .before .before .before .before .before .before .if1 .taken)) _ _ _ _ (c .before .before .before .before .before .before .before .before .before .read-front .ensures) _ (c .conclude .ensures))
 
 reject-requires : tie.Need-reject-requires
 reject-requires c κs = search needs

@@ -5,18 +5,11 @@ use Rattle.entry.proofs.read_tokens.Reads as reads
 use Rattle.entry.proofs.read_tokens.Lts as lts
 use Rattle.entry.proofs.counted.Reads as counted-reads
 use Rattle.entry.proofs.parse_tokens.Reads as parse-tokens-reads
+use Rattle.erasing.proofs.clear_left.Reads as clear-left-reads
 use Rattle.names.proofs.fill_names.Reads as fill-names-reads
-use native.Mathlib.Omega.{arith}
 use mathlib.Core.Path.{_≡_, refl, sym, ap, _∙_}
-use mathlib.Core.List.{List}
-use Prim.Native.Nat.{ℕ, _≤_, _<_}
-use lib.ListN.{length}
-use Rattle.laws.proofs.Columns.{columns-short}
-use Rattle.table.proofs.Shown.{held}
-use Rattle.entry.proofs.Parsing.{here-end, here-token, header-done, header-refused, one-done, one-too-many, one-refused, kept-words, read-done, read-refused}
-use Rattle.words.specs.Meaning.{modelFound}
-use Rattle.entry.proofs.Telling.{lexes, lexes-no, text-columns, text-done, text-refused, front-fresh, front-leaves, reject-is, answer-known, answer-unknown}
-use lib.Seq.{length-take-le}
+use Rattle.table.proofs.Shown.{long}
+use Rattle.entry.proofs.Parsing.{kept-words, read-done, read-refused}
 
 parse-tokens-requires : tie.Need-parse-tokens-requires
 parse-tokens-requires c κs = search needs
@@ -32,6 +25,9 @@ counted-requires c κs = search needs
 
 enum-known-r-2 : tie.Need-enum-known-r-2
 enum-known-r-2 c = search needs
+
+clear-left-requires : tie.Need-clear-left-requires
+clear-left-requires c κs = search needs
 
 same-length : tie.Need-same-length
 same-length c = search needs
@@ -55,7 +51,7 @@ same-length-6 : tie.Need-same-length-6
 same-length-6 c = search needs
 
 returns-2 : tie.Need-returns-2
-returns-2 c = read-refused _ _ _ (c .before .before .before .before .before .before .before .before .before .before .before .before .before .before .before .before .before .pre .0) (c .before .before .before .before .before .before .before .before .parse-tokens .ensures) _ _ (c .before .r2 .given .1)
+returns-2 c = read-refused _ _ _ (c .before .before .before .before .before .before .before .before .before .before .before .before .before .before .before .before .before .before .before .before .before .before .before .before .before .before .pre .0) (c .before .before .before .before .before .before .before .before .before .before .before .before .before .before .before .before .before .parse-tokens .ensures) _ _ (c .before .before .before .before .before .before .before .before .before .before .r2 .given .1) (long (c .before .before .before .before .before .before .before .before .before .before .before .before .before .before .before .before .before .before .before .before .before .before .before .before .before .before .pre .1)) (c .before .before .before .before .before .clear-left .ensures)
 
 pub read-tokens-spec : {M : Type 1} → statement M
 read-tokens-spec =
@@ -66,6 +62,7 @@ read-tokens-spec =
     fill-names-requires
     counted-requires
     enum-known-r-2
+    clear-left-requires
     same-length
     same-length-2
     same-length-3

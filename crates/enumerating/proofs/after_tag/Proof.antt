@@ -12,7 +12,7 @@ kind-at-requires c κs = search needs
 
 returns : tie.Need-returns
 unfolding afterTag
-returns c = record { run = λ t h. is+ _ _ (c .before .kind-at .ensures) (c .if1 .taken) (no! refl) }
+returns c = record { run = λ t h. is+ _ _ (c .before .kind-at .ensures) (c .if1 .taken) (no! h refl) }
 
 add-moved : tie.Need-add-moved
 add-moved c = omega (arith, there (c .before .before .before .before .before .kind-at .ensures) (c .before .before .before .if2 .taken))

@@ -10,7 +10,7 @@ use Rattle.enumerating.proofs.Enums.{noted}
 
 returns : tie.Need-returns
 unfolding bareEnum
-returns c = record { run = λ t h. eq+ _ _ _ _ (c .if1 .taken) (no! refl) }
+returns c = record { run = λ t h. eq+ _ _ _ _ (c .if1 .taken) (no! h refl) }
 
 enum-tag-row-requires : tie.Need-enum-tag-row-requires
 enum-tag-row-requires c κs = search needs

@@ -11,7 +11,7 @@ use Rattle.enumerators.proofs.Naming.{no-name, a-name, inside}
 use Rattle.enumerating.proofs.Enums.{tagged, no-level, a-level}
 
 returns : tie.Need-returns
-returns c = record { run = λ t h. by (no-level _ _ _ (c .if1 .taken)) (no! refl) }
+returns c = record { run = λ t h. by (no-level _ _ _ (c .if1 .taken)) (no! h refl) }
 
 kind-at-requires : tie.Need-kind-at-requires
 kind-at-requires c κs = search needs

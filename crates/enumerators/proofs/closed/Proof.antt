@@ -19,7 +19,7 @@ kind-at-requires c κs = search needs
 
 returns : tie.Need-returns
 unfolding needed need
-returns c = record { with = λ ns w d v. record { run = λ t h. halt _ (eq-no _ _ _ _ (λ z. c .if1 .taken (c .before .kind-at .ensures .is ∙ z))) (no! refl) } }
+returns c = record { with = λ ns w d v. record { run = λ t h. halt _ (eq-no _ _ _ _ (λ z. c .if1 .taken (c .before .kind-at .ensures .is ∙ z))) (no! h refl) } }
 
 add-moved : tie.Need-add-moved
 add-moved c = omega (arith, there (c .before .kind-at .ensures) (c .if1 .left))

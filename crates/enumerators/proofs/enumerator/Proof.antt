@@ -20,7 +20,7 @@ is-name-requires c κs = search needs
 
 returns : tie.Need-returns
 unfolding enumerator
-returns c = record { model = λ m. record { run = λ t h. nay! _ _ _ (no-name (c .before .before .kind-at .ensures) (c .before .is-name .ensures) (c .if1 .taken)) (no! refl) } }
+returns c = record { model = λ m. record { run = λ t h. nay! _ _ _ (no-name (c .before .before .kind-at .ensures) (c .before .is-name .ensures) (c .if1 .taken)) (no! h refl) } }
 
 add-moved : tie.Need-add-moved
 add-moved c = omega (arith, inside (c .before .before .before .before .kind-at .ensures) (c .before .before .before .is-name .ensures) (c .before .before .if1 .left))
@@ -51,7 +51,7 @@ same-length-2 c = search needs
 
 returns-2 : tie.Need-returns-2
 unfolding enumerator
-returns-2 c = record { model = λ m. record { run = λ t h. yes! _ _ _ (a-name (c .before .before .before .before .before .before .before .before .before .before .before .kind-at .ensures) (c .before .before .before .before .before .before .before .before .before .before .is-name .ensures) (c .before .before .before .before .before .before .before .before .before .if1 .left)) (call _ (step-on (c .before .before .before .before .before .before .moved .ensures) (c .before .before .before .before .before .enumerator-value .ensures .with m _) h) (passed (c .before .before .before .g2 .given .1) (c .enum-told .given .1)) (λ t₁ h₁. halt _ (past-range _) (no! refl))) } }
+returns-2 c = record { model = λ m. record { run = λ t h. yes! _ _ _ (a-name (c .before .before .before .before .before .before .before .before .before .before .before .kind-at .ensures) (c .before .before .before .before .before .before .before .before .before .before .is-name .ensures) (c .before .before .before .before .before .before .before .before .before .if1 .left)) (call _ (step-on (c .before .before .before .before .before .before .moved .ensures) (c .before .before .before .before .before .enumerator-value .ensures .with m _) h) (passed (c .before .before .before .g2 .given .1) (c .enum-told .given .1)) (λ t₁ h₁. halt _ (past-range _) (no! h₁ refl))) } }
 
 add-push-value : tie.Need-add-push-value
 add-push-value c = omega (arith, c .before .before .before .before .before .before .before .before .before .before .before .before .before .before .before .before .before .before .before .before .pre .1 .1)

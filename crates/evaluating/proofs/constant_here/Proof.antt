@@ -10,7 +10,7 @@ use Rattle.table.proofs.Shown.{no! }
 use Rattle.evaluating.proofs.Levels.{no-constant, a-constant}
 
 returns : tie.Need-returns
-returns c = record { with = λ m d. record { run = λ t h. by (no-constant _ m _ (c .if1 .taken)) (no! refl) } }
+returns c = record { with = λ m d. record { run = λ t h. by (no-constant _ m _ (c .if1 .taken)) (no! h refl) } }
 
 constant-here-requires : tie.Need-constant-here-requires
 constant-here-requires c κs = search needs

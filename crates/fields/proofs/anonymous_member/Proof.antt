@@ -23,7 +23,7 @@ same-length c = search needs
 
 returns : tie.Need-returns
 unfolding anonymousMember
-returns c = λ ts m next. record { run = λ t h. nay! _ _ _ (ap isComposite (sym (c .before .before .resolved-kind .ensures .of t (h .words))) ∙ (sym (c .before .is-composite .ensures) ∙ not-true _ (c .if1 .taken))) (no! refl) }
+returns c = λ ts m next. record { run = λ t h. nay! _ _ _ (ap isComposite (sym (c .before .before .resolved-kind .ensures .of t (h .words))) ∙ (sym (c .before .is-composite .ensures) ∙ not-true _ (c .if1 .taken))) (no! h refl) }
 
 push-field-requires : tie.Need-push-field-requires
 push-field-requires c κs = search needs

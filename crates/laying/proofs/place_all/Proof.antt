@@ -10,6 +10,7 @@ use lib.ListN.{length}
 use Rattle.definition.specs.Table.{Table, markOf}
 use Rattle.table.specs.Held.{Encodes, memberAt}
 use Rattle.table.specs.Reply.{bad}
+use Rattle.table.proofs.Shown.{left}
 use Rattle.words.specs.Meaning.{model}
 use Rattle.placing.specs.Outcome.{laidOf}
 use Rattle.laying.specs.Lays.{place, placedFrom, stop}
@@ -68,7 +69,8 @@ returns : tie.Need-returns Inv-loop μ-loop
 unfolding markOf
 returns c = record {
   of = λ t v h. stop _ _ (stopped (c .before .before .before .before .before .before .before .before .before .before .before .loop .inv .0 t v h) (omega (arith, c .before .before .before .before .before .before .before .before .before .before .loop-test .taken, h .counts .members)) (c .before .before .before .before .before .before .before .before .before .member-row .ensures .of t (h .words)) (c .before .before .before .before .before .before .before .before .if1 .left) (c .before .before .before .before .before .before .before .is-last .ensures .of _ t _ (h .words) (h .counts .members)) (sym (ap (λ z. place z (memberAt t (c .before .before .before .before .before .before .before .before .before .before .before .loop .i))) (c .before .before .before .p .given .1)) ∙ c .before .before .before .before .before .place-member .ensures .of t (h .words) (record { table = _; holds = c .before .before .before .before .before .before .before .before .before .before .before .loop .inv .0 t v h .holds .wides; rows = refl }) (h .counts .members)))
-      (ap (λ z. bad (c .before .before .before .p .given .0 .0) z) (c .member-offset .ensures .of _ (c .before .before .before .before .before .before .before .before .before .before .before .loop .inv .0 t v h .holds .wides) ∙ ap (λ e. e .offset) (untouched (c .before .before .before .before .before .before .before .before .before .before .before .loop .inv .0 t v h) (omega (arith, c .before .before .before .before .before .before .before .before .before .before .loop-test .taken, h .counts .members)))));
+      (ap (λ z. bad (c .before .before .before .p .given .0 .0) z) (c .member-offset .ensures .of _ (c .before .before .before .before .before .before .before .before .before .before .before .loop .inv .0 t v h .holds .wides) ∙ ap (λ e. e .offset) (untouched (c .before .before .before .before .before .before .before .before .before .before .before .loop .inv .0 t v h) (omega (arith, c .before .before .before .before .before .before .before .before .before .before .loop-test .taken, h .counts .members)))))
+      (left (c .before .before .before .before .before .before .before .before .before .before .before .loop .inv .0 t v h .holds));
 }
 
 enum-known-p-2 : tie.Need-enum-known-p-2 Inv-loop μ-loop

@@ -14,7 +14,7 @@ use Rattle.definition.specs.Row.{kindOf}
 use Rattle.definition.specs.Table.{Table, carrying, rowAt}
 use Rattle.definition.specs.Lent.{flat}
 use Rattle.definition.specs.Listing.{memberLine, valueLine, paramLine, declLine, typeLine, subLines, typeLines, listing}
-use Rattle.table.specs.Held.{noMember, noValue, noParameter, Encodes}
+use Rattle.table.specs.Held.{noMember, noValue, noParameter, Stands}
 use Rattle.table.proofs.Branch.{yes, nay, eq-yes, eq-no}
 use Rattle.words.specs.Meaning.{model}
 use Rattle.printing.proofs.Writing.{then, nothing}
@@ -23,7 +23,7 @@ use Rattle.listing.proofs.Under.{LeftAs, starts, ends, passes-on, goes-
 use Rattle.listing.proofs.Under.{both}
 
 abbrev Inv-loop : tie.InvT-loop
-Inv-loop out₀ n text m w d v c rows members at₀ i₀ out at i = LeftAs (λ t. Encodes t c w d v) (λ t. typeLines text (model m) t i (drop i (t .rows))) (λ t. typeLines text (model m) t 0 (t .rows)) out₀ n out at
+Inv-loop out₀ n text m w d v c rows members at₀ i₀ out at i = LeftAs (λ t. Stands t c w d v) (λ t. typeLines text (model m) t i (drop i (t .rows))) (λ t. typeLines text (model m) t 0 (t .rows)) out₀ n out at
 
 abbrev μ-loop : tie.MeasureT-loop
 μ-loop out₀ n text m w d v c rows members at₀ i₀ out at i = c .rows - i

@@ -27,7 +27,7 @@ same-length-2 c = search needs
 
 returns : tie.Need-returns
 unfolding field
-returns c = λ m. record { run = λ t h. call _ (c .before .before .before .before .bit-width .ensures .with m _ .run t h) (ap width (c .before .before .r .given .1)) (λ t₁ h₁. yes! _ _ _ (c .if1 .taken) (no! refl)) }
+returns c = λ m. record { run = λ t h. call _ (c .before .before .before .before .bit-width .ensures .with m _ .run t h) (ap width (c .before .before .r .given .1)) (λ t₁ h₁. yes! _ _ _ (c .if1 .taken) (no! h₁ refl)) }
 
 push-field-requires : tie.Need-push-field-requires
 push-field-requires c κs = (held-on (c .before .before .before .before .before .before .before .bit-width .ensures .with lp64 _) (c .before .before .before .before .before .before .before .before .before .before .before .before .before .before .pre .0) (ap width (c .before .before .before .before .before .r .given .1)), c .before .before .before .before .before .before .before .before .before .before .before .before .before .before .pre .1)

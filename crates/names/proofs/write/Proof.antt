@@ -17,23 +17,22 @@ use lib.ListN.{length, drop, take, getD, set, replicate, length-set}
 use Rattle.definition.specs.Kind.{isName}
 use Rattle.definition.specs.Name.{nameOf, offsetOf, lengthOf}
 use Rattle.laws.specs.Columns.{Columns}
-use Rattle.names.specs.Names.{isFirst, HeldWords, Writes}
+use Rattle.names.specs.Names.{isFirst, Plain}
 use Rattle.names.specs.Striking.{column, Listed, slot, left, Struck, Strikes, Found, Ready, Fills}
 use Rattle.names.proofs.Crossing.{first-name, first-place, ListedTo, list-none, list-more, list-same, list-all, struck-none, struck-on, strike-it, strike-no, column-more, column-none, strike-more, strike-end, found}
-use Rattle.names.proofs.Filling.{Going, go-start, go-end, go-skip, go-room, go-take, in-long, found-first}
-use Rattle.table.specs.Held.{InWords}
+use Rattle.names.proofs.Filling.{Going, go-start, go-end, go-skip, go-room, go-take, plain-long, found-first}
 use Rattle.definition.specs.Table.{Table}
 use Rattle.definition.specs.NameTable.{heldNames}
 use Rattle.names.proofs.Holding.{all-struck, named}
 
 abbrev Inv-loop : tie.InvT-loop
-Inv-loop kinds places numbers listed w₀ count₀ i₀ w count i = (i ≤ length kinds) × ((length w ≡ 78848) × ((t : Table) → InWords t w₀ → Found kinds places numbers listed (heldNames t) → Going kinds places numbers t i count w))
+Inv-loop kinds places numbers listed w₀ count₀ i₀ w count i = (i ≤ length kinds) × ((length w ≡ 78848) × ((t : Table) → Plain t w₀ → Found kinds places numbers listed (heldNames t) → Going kinds places numbers t i count w))
 
 abbrev μ-loop : tie.MeasureT-loop
 μ-loop kinds places numbers listed w₀ count₀ i₀ w count i = length kinds - i
 
 loop-holds : tie.Need-loop-holds Inv-loop μ-loop
-loop-holds c = (omega arith, (in-long (c .before .before .before .before .before .pre .table) (c .before .before .before .before .before .pre .words), λ t h f. go-start (c .before .before .before .before .before .pre .columns) h f))
+loop-holds c = (omega arith, (plain-long (c .before .before .before .before .before .pre .table) (c .before .before .before .before .before .pre .words), λ t h f. go-start (c .before .before .before .before .before .pre .columns) h f))
 
 mul-number : tie.Need-mul-number Inv-loop μ-loop
 mul-number c = search needs
@@ -102,7 +101,7 @@ loop-again-2 : tie.Need-loop-again-2 Inv-loop μ-loop
 loop-again-2 c = (omega arith, (c .before .before .before .before .before .before .loop .inv .1 .0, λ t h f. go-skip (c .before .before .before .before .before .before .before .before .before .before .before .before .pre .columns) h f (c .before .before .before .before .before .before .loop .inv .1 .1 t h f) (c .before .before .before .before .before .loop-test .taken) (sym (c .before .is-found .ensures) ∙ c .if1 .left)))
 
 same-length : tie.Need-same-length Inv-loop μ-loop
-same-length c = c .before .loop .inv .1 .0 ∙ sym (in-long (c .before .before .before .before .before .before .before .pre .table) (c .before .before .before .before .before .before .before .pre .words))
+same-length c = c .before .loop .inv .1 .0 ∙ sym (plain-long (c .before .before .before .before .before .before .before .pre .table) (c .before .before .before .before .before .before .before .pre .words))
 
 returns : tie.Need-returns Inv-loop μ-loop
 returns c = record { run = λ t h f. go-end (c .before .before .before .before .before .before .before .pre .columns) h f (c .before .loop .inv .1 .1 t h f) (c .loop-test .left) (c .before .loop .inv .0) }

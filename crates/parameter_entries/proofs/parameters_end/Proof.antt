@@ -21,7 +21,7 @@ kind-at-requires c κs = search needs
 
 returns : tie.Need-returns
 unfolding parametersEnd
-returns c = record { with = λ ns m next w d v. record { run = λ t h. missed _ _ _ (c .before .kind-at .ensures) (c .if1 .taken) (no! refl) } }
+returns c = record { with = λ ns m next w d v. record { run = λ t h. missed _ _ _ (c .before .kind-at .ensures) (c .if1 .taken) (no! h refl) } }
 
 add-moved : tie.Need-add-moved
 add-moved c = omega (arith, there (c .before .kind-at .ensures) (c .if1 .left))

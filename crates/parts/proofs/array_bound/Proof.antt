@@ -32,10 +32,10 @@ add-t15 : tie.Need-add-t15
 add-t15 c = omega (arith, there (c .before .before .before .before .kind-at .ensures) (c .before .before .if2 .taken))
 
 returns-2 : tie.Need-returns-2
-returns-2 c = record { with = λ m d. record { run = λ t h. past-words _ m _ _ _ (c .before .before .before .before .before .bound-words .ensures _ t) (is- _ _ (c .before .before .before .before .kind-at .ensures) (c .before .before .before .if1 .left) (is+ _ _ (c .before .before .before .before .kind-at .ensures) (c .before .before .if2 .taken) (missed _ _ _ (c .before .kind-at2 .ensures) (c .if3 .taken) (no! refl)))) } }
+returns-2 c = record { with = λ m d. record { run = λ t h. past-words _ m _ _ _ (c .before .before .before .before .before .bound-words .ensures _ t) (is- _ _ (c .before .before .before .before .kind-at .ensures) (c .before .before .before .if1 .left) (is+ _ _ (c .before .before .before .before .kind-at .ensures) (c .before .before .if2 .taken) (missed _ _ _ (c .before .kind-at2 .ensures) (c .if3 .taken) (no! h refl)))) } }
 
 returns-3 : tie.Need-returns-3
-returns-3 c = record { with = λ m d. record { run = λ t h. past-words _ m _ _ _ (c .before .before .before .before .before .bound-words .ensures _ t) (is- _ _ (c .before .before .before .before .kind-at .ensures) (c .before .before .before .if1 .left) (is+ _ _ (c .before .before .before .before .kind-at .ensures) (c .before .before .if2 .taken) (ate _ _ _ (c .before .kind-at2 .ensures) (c .if3 .left) (no! refl)))) } }
+returns-3 c = record { with = λ m d. record { run = λ t h. past-words _ m _ _ _ (c .before .before .before .before .before .bound-words .ensures _ t) (is- _ _ (c .before .before .before .before .kind-at .ensures) (c .before .before .before .if1 .left) (is+ _ _ (c .before .before .before .before .kind-at .ensures) (c .before .before .if2 .taken) (ate _ _ _ (c .before .kind-at2 .ensures) (c .if3 .left) (no! h refl)))) } }
 
 moved-requires-2 : tie.Need-moved-requires-2
 moved-requires-2 c κs = search needs

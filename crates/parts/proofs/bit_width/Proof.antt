@@ -36,12 +36,12 @@ enum-known-r c = search needs
 returns-2 : tie.Need-returns-2
 unfolding bitWidth
 returns-2 c = let n = rw (toZ-ofZ (sfits-of {w = w64} {z = c .before .before .r .given .0 .1 .0} (c .before .known-told .given .1 .0 .1))) at (c .if2 .taken) in
-    record { with = λ m d. record { run = λ t h. is+ _ _ (c .before .before .before .before .before .before .before .kind-at .ensures) (c .before .before .before .before .before .before .if1 .left) (call _ (step-on (c .before .before .before .before .before .moved .ensures) (c .before .before .before .before .constant-here .ensures .with m d) h) (ap evaluated (c .before .before .r .given .1)) (λ t₁ h₁. halt _ (width-below (c .before .before .r .given .0 .1 .0) _ n) (no! refl))) } }
+    record { with = λ m d. record { run = λ t h. is+ _ _ (c .before .before .before .before .before .before .before .kind-at .ensures) (c .before .before .before .before .before .before .if1 .left) (call _ (step-on (c .before .before .before .before .before .moved .ensures) (c .before .before .before .before .constant-here .ensures .with m d) h) (ap evaluated (c .before .before .r .given .1)) (λ t₁ h₁. halt _ (width-below (c .before .before .r .given .0 .1 .0) _ n) (no! h₁ refl))) } }
 
 returns-3 : tie.Need-returns-3
 unfolding bitWidth
 returns-3 c = let n = rw (toZ-ofZ (sfits-of {w = w64} {z = c .before .before .before .r .given .0 .1 .0} (c .before .before .known-told .given .1 .0 .1))) at (c .if3 .taken) in
-    record { with = λ m d. record { run = λ t h. is+ _ _ (c .before .before .before .before .before .before .before .before .kind-at .ensures) (c .before .before .before .before .before .before .before .if1 .left) (call _ (step-on (c .before .before .before .before .before .before .moved .ensures) (c .before .before .before .before .before .constant-here .ensures .with m d) h) (ap evaluated (c .before .before .before .r .given .1)) (λ t₁ h₁. halt _ (width-above (c .before .before .before .r .given .0 .1 .0) _ n) (no! refl))) } }
+    record { with = λ m d. record { run = λ t h. is+ _ _ (c .before .before .before .before .before .before .before .before .kind-at .ensures) (c .before .before .before .before .before .before .before .if1 .left) (call _ (step-on (c .before .before .before .before .before .before .moved .ensures) (c .before .before .before .before .before .constant-here .ensures .with m d) h) (ap evaluated (c .before .before .before .r .given .1)) (λ t₁ h₁. halt _ (width-above (c .before .before .before .r .given .0 .1 .0) _ n) (no! h₁ refl))) } }
 
 cast-t20 : tie.Need-cast-t20
 cast-t20 c = let f = sfits-of {w = w64} {z = c .before .before .before .r .given .0 .1 .0} (c .before .before .known-told .given .1 .0 .1) in let p = rw (toZ-ofZ f) at (c .before .if2 .left) in let q = rw (toZ-ofZ f) at (c .if3 .left) in

@@ -23,12 +23,12 @@ kind-at-requires c κs = search needs
 
 returns : tie.Need-returns
 unfolding constantBound
-returns c = record { with = λ m d. record { run = λ t h. call _ (c .before .before .before .before .before .constant-here .ensures .with m d .run t h) (ap evaluated (c .before .before .before .r .given .1)) (λ t₁ h₁. missed _ _ _ (c .before .kind-at .ensures) (c .if1 .taken) (no! refl)) } }
+returns c = record { with = λ m d. record { run = λ t h. call _ (c .before .before .before .before .before .constant-here .ensures .with m d .run t h) (ap evaluated (c .before .before .before .r .given .1)) (λ t₁ h₁. missed _ _ _ (c .before .kind-at .ensures) (c .if1 .taken) (no! h₁ refl)) } }
 
 returns-2 : tie.Need-returns-2
 unfolding constantBound
 returns-2 c = let n = rw (toZ-ofZ (sfits-of {w = w64} {z = c .before .before .before .before .r .given .0 .1 .0} (c .before .before .before .known-told .given .1 .0 .1))) at (c .if2 .taken) in
-    record { with = λ m d. record { run = λ t h. call _ (c .before .before .before .before .before .before .constant-here .ensures .with m d .run t h) (ap evaluated (c .before .before .before .before .r .given .1)) (λ t₁ h₁. ate _ _ _ (c .before .before .kind-at .ensures) (c .before .if1 .left) (halt _ (bound-below (c .before .before .before .before .r .given .0 .1 .0) _ n) (no! refl))) } }
+    record { with = λ m d. record { run = λ t h. call _ (c .before .before .before .before .before .before .constant-here .ensures .with m d .run t h) (ap evaluated (c .before .before .before .before .r .given .1)) (λ t₁ h₁. ate _ _ _ (c .before .before .kind-at .ensures) (c .before .if1 .left) (halt _ (bound-below (c .before .before .before .before .r .given .0 .1 .0) _ n) (no! h₁ refl))) } }
 
 add-moved : tie.Need-add-moved
 add-moved c = omega (arith, there (c .before .before .kind-at .ensures) (c .before .if1 .left))

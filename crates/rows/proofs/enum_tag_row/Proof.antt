@@ -26,7 +26,7 @@ same-length c = search needs
 
 returns : tie.Need-returns
 unfolding enumTagRow
-returns c = record { run = λ t h. some! (enumRow t (c .before .before .before .before .before .before .before .args .name)) _ _ (sym (c .before .before .before .row-named .ensures .of t (h .words) (h .counts)) ∙ ap found (c .before .f .given .1)) (got! h) }
+returns c = record { run = λ t h. some! (enumRow t (c .before .before .before .before .before .before .before .args .name)) _ _ (sym (c .before .before .before .row-named .ensures .of t (h .words) (h .index) (h .counts)) ∙ ap found (c .before .f .given .1)) (got! h) }
 
 enum-told : tie.Need-enum-told
 enum-told c = search needs
@@ -46,7 +46,7 @@ same-length-4 c = search needs
 returns-2 : tie.Need-returns-2
 unfolding enumTagRow kindOf targetOf flagsOf rowName spanOf extentOf
 returns-2 c = record {
-  run = λ t h. none! (enumRow t (c .before .before .before .before .before .before .before .before .before .before .before .before .before .before .before .args .name)) _ _ (sym (c .before .before .before .before .before .before .before .before .before .before .before .row-named .ensures .of t (h .words) (h .counts)) ∙ ap found (c .before .before .before .before .before .before .before .before .before .enum-told .given .1))
+  run = λ t h. none! (enumRow t (c .before .before .before .before .before .before .before .before .before .before .before .before .before .before .before .args .name)) _ _ (sym (c .before .before .before .before .before .before .before .before .before .before .before .row-named .ensures .of t (h .words) (h .index) (h .counts)) ∙ ap found (c .before .before .before .before .before .before .before .before .before .enum-told .given .1))
       (c .before .before .before .before .before .push-row .ensures .of (enumeration (c .before .before .before .before .before .before .before .before .before .before .before .before .before .before .before .args .name) (c .before .before .before .before .before .before .before .before .before .before .before .before .before .before .before .args .bytes) nothing) refl .run t h);
 }
 

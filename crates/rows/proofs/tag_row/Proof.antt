@@ -32,7 +32,7 @@ returns : tie.Need-returns
 unfolding tagRow
 returns c = record {
   run = λ t h. some! (compositeRow (c .before .before .before .before .before .before .before .before .args .union) t (c .before .before .before .before .before .before .before .before .args .name)) _ _
-      (ap (λ k. rowNamed k (c .before .before .before .before .before .before .before .before .args .name) 0 (t .rows)) (sym (c .before .before .before .before .before .composite-kind .ensures)) ∙ (sym (c .before .before .before .row-named .ensures .of t (h .words) (h .counts)) ∙ ap found (c .before .f .given .1))) (got! h);
+      (ap (λ k. rowNamed k (c .before .before .before .before .before .before .before .before .args .name) 0 (t .rows)) (sym (c .before .before .before .before .before .composite-kind .ensures)) ∙ (sym (c .before .before .before .row-named .ensures .of t (h .words) (h .index) (h .counts)) ∙ ap found (c .before .f .given .1))) (got! h);
 }
 
 enum-told : tie.Need-enum-told
@@ -54,7 +54,7 @@ returns-2 : tie.Need-returns-2
 unfolding tagRow kindOf targetOf flagsOf rowName spanOf extentOf
 returns-2 c = record {
   run = λ t h. none! (compositeRow (c .before .before .before .before .before .before .before .before .before .before .before .before .before .before .before .before .args .union) t (c .before .before .before .before .before .before .before .before .before .before .before .before .before .before .before .before .args .name)) _ _
-      (ap (λ k. rowNamed k (c .before .before .before .before .before .before .before .before .before .before .before .before .before .before .before .before .args .name) 0 (t .rows)) (sym (c .before .before .before .before .before .before .before .before .before .before .before .before .before .composite-kind .ensures)) ∙ (sym (c .before .before .before .before .before .before .before .before .before .before .before .row-named .ensures .of t (h .words) (h .counts)) ∙ ap found (c .before .before .before .before .before .before .before .before .before .enum-told .given .1)))
+      (ap (λ k. rowNamed k (c .before .before .before .before .before .before .before .before .before .before .before .before .before .before .before .before .args .name) 0 (t .rows)) (sym (c .before .before .before .before .before .before .before .before .before .before .before .before .before .composite-kind .ensures)) ∙ (sym (c .before .before .before .before .before .before .before .before .before .before .before .row-named .ensures .of t (h .words) (h .index) (h .counts)) ∙ ap found (c .before .before .before .before .before .before .before .before .before .enum-told .given .1)))
       (c .before .before .before .before .before .push-row .ensures .of (composite (c .before .before .before .before .before .before .before .before .before .before .before .before .before .before .before .before .args .union) (c .before .before .before .before .before .before .before .before .before .before .before .before .before .before .before .before .args .name) none nothing) (ap (λ k. record { kind = k; target = 0; flags = 0; name = c .before .before .before .before .before .before .before .before .before .before .before .before .before .before .before .before .args .name; first = 0; count = 0; extent = 0 }) (c .before .before .before .before .before .before .before .before .before .before .before .before .before .composite-kind .ensures)) .run t h);
 }
 

@@ -15,7 +15,13 @@ use Rattle.definition.specs.Table.{pushMember, withMembers}
 
 returns : tie.Need-returns
 unfolding pushMember
-returns c = record { of = λ x e. record { run = λ t h. le+ 4096 (length (t .members)) _ _ (omega (arith, h .counts .members)) (no! refl) } }
+returns c = record { of = λ x e. record { run = λ t h. le+ 4096 (length (t .members)) _ _ (omega (arith, h .counts .members)) (no! h refl) } }
+
+cast-w : tie.Need-cast-w
+cast-w c = search needs
+
+slice-write-w : tie.Need-slice-write-w
+slice-write-w c = search needs
 
 mul-b : tie.Need-mul-b
 mul-b c = search needs
@@ -26,8 +32,8 @@ add-b c = search needs
 mul-w : tie.Need-mul-w
 mul-w c = search needs
 
-slice-write-w : tie.Need-slice-write-w
-slice-write-w c = search needs
+slice-write-w-2 : tie.Need-slice-write-w-2
+slice-write-w-2 c = simp length-set (omega arith)
 
 add-w : tie.Need-add-w
 add-w c = search needs
@@ -35,8 +41,8 @@ add-w c = search needs
 mul-w-2 : tie.Need-mul-w-2
 mul-w-2 c = search needs
 
-slice-write-w-2 : tie.Need-slice-write-w-2
-slice-write-w-2 c = simp length-set (omega arith)
+slice-write-w-3 : tie.Need-slice-write-w-3
+slice-write-w-3 c = simp length-set (omega arith)
 
 add-w-2 : tie.Need-add-w-2
 add-w-2 c = search needs
@@ -44,8 +50,8 @@ add-w-2 c = search needs
 mul-w-3 : tie.Need-mul-w-3
 mul-w-3 c = search needs
 
-slice-write-w-3 : tie.Need-slice-write-w-3
-slice-write-w-3 c = simp length-set (omega arith)
+slice-write-w-4 : tie.Need-slice-write-w-4
+slice-write-w-4 c = simp length-set (omega arith)
 
 add-w-3 : tie.Need-add-w-3
 add-w-3 c = search needs
@@ -53,8 +59,8 @@ add-w-3 c = search needs
 mul-w-4 : tie.Need-mul-w-4
 mul-w-4 c = search needs
 
-slice-write-w-4 : tie.Need-slice-write-w-4
-slice-write-w-4 c = simp length-set (omega arith)
+slice-write-w-5 : tie.Need-slice-write-w-5
+slice-write-w-5 c = simp length-set (omega arith)
 
 mul-e : tie.Need-mul-e
 mul-e c = search needs
@@ -77,11 +83,11 @@ mul-d-2 c = search needs
 slice-write-d-2 : tie.Need-slice-write-d-2
 slice-write-d-2 c = simp length-set (omega arith)
 
-add-t14 : tie.Need-add-t14
-add-t14 c = search needs
+add-t16 : tie.Need-add-t16
+add-t16 c = search needs
 
-cast-t23 : tie.Need-cast-t23
-cast-t23 c = search needs
+cast-t14 : tie.Need-cast-t14
+cast-t14 c = search needs
 
 same-length : tie.Need-same-length
 same-length c = search needs
@@ -98,19 +104,21 @@ push-member-spec =
     tie.close
     (tie.spec
     returns
+    cast-w
+    slice-write-w
     mul-b
     add-b
     mul-w
-    slice-write-w
+    slice-write-w-2
     add-w
     mul-w-2
-    slice-write-w-2
+    slice-write-w-3
     add-w-2
     mul-w-3
-    slice-write-w-3
+    slice-write-w-4
     add-w-3
     mul-w-4
-    slice-write-w-4
+    slice-write-w-5
     mul-e
     add-e
     mul-d
@@ -118,8 +126,8 @@ push-member-spec =
     add-d
     mul-d-2
     slice-write-d-2
-    add-t14
-    cast-t23
+    add-t16
+    cast-t14
     same-length
     same-length-2
     returns-2)

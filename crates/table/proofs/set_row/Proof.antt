@@ -3,9 +3,23 @@ use Rattle.table.proofs.set_row.Statement.{statement}
 use Rattle.table.proofs.set_row.Tie as tie
 use Rattle.table.proofs.set_row.Reads as reads
 use Rattle.table.proofs.set_row.Lts as lts
+use Rattle.table.proofs.note_row.Reads as note-row-reads
+use Rattle.table.proofs.note_top.Reads as note-top-reads
 use native.Mathlib.Omega.{arith}
+use mathlib.Core.Path.{refl}
+use mathlib.Core.List.{_∷_, [], _++_}
 use lib.ListN.{length, length-set}
+use Rattle.table.specs.Reply.{done}
+use Rattle.table.proofs.Branch.{le+, le-}
+use Rattle.table.proofs.Shown.{no! }
+use Rattle.table.proofs.Index.{topped, topped-here, noted, noted-here}
 use Rattle.table.proofs.Leaves.{row-put, row-past}
+
+note-top-requires : tie.Need-note-top-requires
+note-top-requires c κs = search needs
+
+note-row-requires : tie.Need-note-row-requires
+note-row-requires c κs = search needs
 
 mul-b : tie.Need-mul-b
 mul-b c = search needs
@@ -68,13 +82,13 @@ slice-write-d : tie.Need-slice-write-d
 slice-write-d c = search needs
 
 same-length : tie.Need-same-length
-same-length c = search needs
+same-length c = simp length-set (omega arith)
 
 same-length-2 : tie.Need-same-length-2
 same-length-2 c = search needs
 
 returns : tie.Need-returns
-returns c = record { of = λ x e. record { run = λ t h. row-put h _ x _ e (c .if1 .taken) } }
+returns c = record { of = λ x e. record { run = λ t h. let h₁ = topped h (c .before .before .before .before .before .before .note-top .ensures) in let q = topped-here h (c .before .before .before .before .before .before .note-top .ensures) in row-put (noted h₁ q (c .before .before .note-row .ensures)) _ x _ e (c .before .before .before .before .before .before .before .before .if1 .taken) (noted-here h₁ q (c .before .before .note-row .ensures)) } }
 
 returns-2 : tie.Need-returns-2
 returns-2 c = record { of = λ x e. record { run = λ t h. row-past h _ x (c .if1 .left) } }
@@ -83,6 +97,8 @@ pub set-row-spec : {M : Type 1} → statement M
 set-row-spec =
     tie.close
     (tie.spec
+    note-top-requires
+    note-row-requires
     mul-b
     mul-w
     slice-write-w

@@ -28,7 +28,7 @@ is-typedef-requires c κs = search needs
 
 returns : tie.Need-returns
 unfolding afterBase
-returns c = record { rounds = λ f p. record { run = λ t h. yes! _ _ _ (ap (λ z. eqb z semicolon || eqb z end) (sym (c .before .before .before .kind-at .ensures .is)) ∙ c .before .before .if1 .taken) (yes! _ _ _ (sym (c .before .is-typedef .ensures) ∙ c .if2 .taken) (no! refl)) } }
+returns c = record { rounds = λ f p. record { run = λ t h. yes! _ _ _ (ap (λ z. eqb z semicolon || eqb z end) (sym (c .before .before .before .kind-at .ensures .is)) ∙ c .before .before .if1 .taken) (yes! _ _ _ (sym (c .before .is-typedef .ensures) ∙ c .if2 .taken) (no! h refl)) } }
 
 declare-requires : tie.Need-declare-requires
 declare-requires c κs = search needs

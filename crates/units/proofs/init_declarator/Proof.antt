@@ -34,7 +34,7 @@ same-length-3 : tie.Need-same-length-3
 same-length-3 c = search needs
 
 returns : tie.Need-returns
-returns c = record { run = λ t h. by (declarator-made _ _ _ _ _) (call _ (c .before .before .before .before .before .before .before .before .before .declared-type .ensures .run t h) (ap typed (c .before .before .t .given .1)) (λ t₁ h₁. eq+ _ _ _ _ (c .if1 .taken) (no! refl))) }
+returns c = record { run = λ t h. by (declarator-made _ _ _ _ _) (call _ (c .before .before .before .before .before .before .before .before .before .declared-type .ensures .run t h) (ap typed (c .before .before .t .given .1)) (λ t₁ h₁. eq+ _ _ _ _ (c .if1 .taken) (no! h₁ refl))) }
 
 initialiser-requires : tie.Need-initialiser-requires
 initialiser-requires c κs = search needs

@@ -130,7 +130,7 @@ pub composite-returns : (t : ℕ) → composite-lts.Need-returns (
   with-tag-below t,
   with-tag.Post,
 ) (composite-at t) composite.Post
-composite-returns t c = record { run = λ t₁ h. by (no-level _ _ _ _ (c .if1 .taken)) (no! refl) }
+composite-returns t c = record { run = λ t₁ h. by (no-level _ _ _ _ (c .if1 .taken)) (no! h refl) }
 
 pub composite-kind-at-requires : (t : ℕ) → composite-lts.Need-kind-at-requires (
   kind-at-reads.Asked,

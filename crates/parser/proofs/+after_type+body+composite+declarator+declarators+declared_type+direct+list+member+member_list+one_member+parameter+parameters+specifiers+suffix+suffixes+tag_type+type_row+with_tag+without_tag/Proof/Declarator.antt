@@ -138,7 +138,7 @@ pub declarator-returns : (t : ℕ) → declarator-lts.Need-returns (
   release-stars-reads.Asked,
   release-stars-reads.Learnt,
 ) (declarator-at t) declarator.Post
-declarator-returns t c = stops (ap (λ x. x .answer) (c .new .ensures)) (λ b h. by (no-declarator _ _ _ _ (c .before .if1 .taken)) (no! refl))
+declarator-returns t c = stops (ap (λ x. x .answer) (c .new .ensures)) (λ b h. by (no-declarator _ _ _ _ (c .before .if1 .taken)) (no! h refl))
 
 pub declarator-stars-requires : (t : ℕ) → declarator-lts.Need-stars-requires (
   new-reads.Asked,

@@ -255,7 +255,7 @@ pub declarators-returns-2 : (t : ℕ) → declarators-lts.Need-returns-2 (
   moved-reads.Learnt,
 ) (declarators-at t) declarators.Post declarators-Inv-loop declarators-μ-loop
 unfolding memberDeclarators
-declarators-returns-2 t c = record { rounds = λ n p. record { run = λ t₁ h. turn (c .before .before .before .before .before .before .before .before .before .before .before .before .before .before .before .loop .inv .going n p t₁ h) (λ t₂ f l h₂. call _ (c .before .before .before .before .before .before .before .before .before .before .before .one-member .ensures .run t₂ h₂) (ap move (c .before .before .before .before .r .given .1)) (λ t₃ h₃. is- _ _ (c .before .before .kind-at .ensures) (c .before .if1 .taken) (by (lone _) (missed _ _ _ (c .before .before .kind-at .ensures) (c .if2 .taken) (no! refl))))) } }
+declarators-returns-2 t c = record { rounds = λ n p. record { run = λ t₁ h. turn (c .before .before .before .before .before .before .before .before .before .before .before .before .before .before .before .loop .inv .going n p t₁ h) (λ t₂ f l h₂. call _ (c .before .before .before .before .before .before .before .before .before .before .before .one-member .ensures .run t₂ h₂) (ap move (c .before .before .before .before .r .given .1)) (λ t₃ h₃. is- _ _ (c .before .before .kind-at .ensures) (c .before .if1 .taken) (by (lone _) (missed _ _ _ (c .before .before .kind-at .ensures) (c .if2 .taken) (no! h₃ refl))))) } }
 
 pub declarators-add-moved : (t : ℕ) → declarators-lts.Need-add-moved (
   one-member-below t,

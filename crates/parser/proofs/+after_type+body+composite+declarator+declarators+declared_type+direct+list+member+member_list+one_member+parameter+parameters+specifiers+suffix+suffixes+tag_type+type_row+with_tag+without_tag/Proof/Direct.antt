@@ -154,7 +154,7 @@ pub direct-returns : (t : ℕ) → direct-lts.Need-returns (
   declarator-below t,
   declarator.Post,
 ) (direct-at t) direct.Post
-direct-returns t c = stops (ap (λ x. x .answer) (c .new .ensures)) (λ b h. by (no-direct _ _ _ _ (c .before .if1 .taken)) (no! refl))
+direct-returns t c = stops (ap (λ x. x .answer) (c .new .ensures)) (λ b h. by (no-direct _ _ _ _ (c .before .if1 .taken)) (no! h refl))
 
 pub direct-sub-inner : (t : ℕ) → direct-lts.Need-sub-inner (
   new-reads.Asked,
@@ -514,7 +514,7 @@ pub direct-add-moved-2 : (t : ℕ) → direct-lts.Need-add-moved-2 (
   declarator-below t,
   declarator.Post,
 ) (direct-at t) direct.Post
-direct-add-moved-2 t c = omega (arith, c .before .before .before .before .before .before .before .before .before .before .before .before .before .before .pre .1 .1 .0 .few, opens-there _ _ _ (sym (c .before .before .before .before .opens-declarator .ensures .of _ (c .before .before .before .before .before .before .before .before .before .before .before .before .before .before .pre .1 .0 .encodes .words) (c .before .before .before .before .before .before .before .before .before .before .before .before .before .before .pre .1 .0 .encodes .counts)) ∙ not-false _ (c .before .before .before .if3 .left)))
+direct-add-moved-2 t c = omega (arith, c .before .before .before .before .before .before .before .before .before .before .before .before .before .before .pre .1 .1 .0 .few, opens-there _ _ _ (sym (c .before .before .before .before .opens-declarator .ensures .of _ (c .before .before .before .before .before .before .before .before .before .before .before .before .before .before .pre .1 .0 .encodes .words) (c .before .before .before .before .before .before .before .before .before .before .before .before .before .before .pre .1 .0 .encodes .index) (c .before .before .before .before .before .before .before .before .before .before .before .before .before .before .pre .1 .0 .encodes .counts)) ∙ not-false _ (c .before .before .before .if3 .left)))
 
 pub direct-moved-requires-2 : (t : ℕ) → direct-lts.Need-moved-requires-2 (
   new-reads.Asked,

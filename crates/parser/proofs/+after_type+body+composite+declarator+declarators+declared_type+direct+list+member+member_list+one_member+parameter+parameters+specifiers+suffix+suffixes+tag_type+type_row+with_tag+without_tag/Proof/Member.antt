@@ -202,7 +202,7 @@ pub member-returns : (t : ℕ) → member-lts.Need-returns (
   after-type.Post,
 ) (member-at t) member.Post
 unfolding storageNumber
-member-returns t c = record { run = λ t₁ h. by (declaration-made _ _ _ _ _) (call _ (c .before .before .before .before .before .before .before .before .before .before .specifiers .ensures .run t₁ h) (ap specified (c .before .before .before .s .given .1)) (λ t₂ h₂. eq- _ _ _ _ (λ e. c .if1 .taken (c .before .number .ensures ∙ e)) (no! refl))) }
+member-returns t c = record { run = λ t₁ h. by (declaration-made _ _ _ _ _) (call _ (c .before .before .before .before .before .before .before .before .before .before .specifiers .ensures .run t₁ h) (ap specified (c .before .before .before .s .given .1)) (λ t₂ h₂. eq- _ _ _ _ (λ e. c .if1 .taken (c .before .number .ensures ∙ e)) (no! h₂ refl))) }
 
 pub member-base-type-requires : (t : ℕ) → member-lts.Need-base-type-requires (
   specifiers-below t,

@@ -244,7 +244,7 @@ pub member-list-returns-2 : (t : ℕ) → member-list-lts.Need-returns-2 (
   member.Post,
 ) (member-list-at t) member-list.Post member-list-Inv-loop member-list-μ-loop
 unfolding membersFrom
-member-list-returns-2 t c = record { run = λ t₁ h. turn (c .before .before .before .loop .inv .going _ (enough _) t₁ h) (λ t₂ f l h₂. is- _ _ (c .before .before .kind-at .ensures) (c .before .if1 .left) (is+ _ _ (c .before .before .kind-at .ensures) (c .if2 .taken) (no! refl))) }
+member-list-returns-2 t c = record { run = λ t₁ h. turn (c .before .before .before .loop .inv .going _ (enough _) t₁ h) (λ t₂ f l h₂. is- _ _ (c .before .before .kind-at .ensures) (c .before .if1 .left) (is+ _ _ (c .before .before .kind-at .ensures) (c .if2 .taken) (no! h₂ refl))) }
 
 pub member-list-add-moved-2 : (t : ℕ) → member-list-lts.Need-add-moved-2 (
   kind-at-reads.Asked,

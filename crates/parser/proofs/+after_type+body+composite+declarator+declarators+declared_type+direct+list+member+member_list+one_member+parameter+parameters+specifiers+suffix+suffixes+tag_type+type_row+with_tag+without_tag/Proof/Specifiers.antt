@@ -360,7 +360,7 @@ pub specifiers-returns : (t : ℕ) → specifiers-lts.Need-returns (
   based-on-reads.Asked,
   based-on-reads.Learnt,
 ) (specifiers-at t) specifiers.Post specifiers-Inv-loop specifiers-μ-loop
-specifiers-returns t c = record { run = λ t₁ h. turn (c .before .before .before .before .loop .inv .going t₁ h) (λ t₂ f l h₂. at-attribute _ _ _ _ _ _ (c .before .before .before .kind-at .ensures) (sym (c .before .before .is-word .ensures) ∙ not-true _ (c .before .if1 .taken)) (c .if2 .taken) (no! refl)) }
+specifiers-returns t c = record { run = λ t₁ h. turn (c .before .before .before .before .loop .inv .going t₁ h) (λ t₂ f l h₂. at-attribute _ _ _ _ _ _ (c .before .before .before .kind-at .ensures) (sym (c .before .before .is-word .ensures) ∙ not-true _ (c .before .if1 .taken)) (c .if2 .taken) (no! h₂ refl)) }
 
 pub specifiers-same-length-4 : (t : ℕ) → specifiers-lts.Need-same-length-4 (
   none-reads.Asked,
@@ -840,7 +840,7 @@ pub specifiers-returns-3 : (t : ℕ) → specifiers-lts.Need-returns-3 (
   based-on-reads.Asked,
   based-on-reads.Learnt,
 ) (specifiers-at t) specifiers.Post specifiers-Inv-loop specifiers-μ-loop
-specifiers-returns-3 t c = record { run = λ t₁ h. turn (c .before .before .before .before .before .before .before .before .before .loop .inv .going t₁ h) (λ t₂ f l h₂. at-word-twice _ _ _ _ _ _ (c .before .before .before .before .before .before .before .before .kind-at .ensures) (sym (c .before .before .before .before .before .before .before .is-word .ensures) ∙ not-false _ (c .before .before .before .before .before .before .if1 .left)) (sym (c .before .before .before .before .before .says-no-type .ensures) ∙ c .before .before .before .before .if3 .left) (sym (c .before .before .before .is-type-word .ensures) ∙ c .before .before .if4 .taken) (sym (c .before .has-base .ensures) ∙ c .if5 .taken) (no! refl)) }
+specifiers-returns-3 t c = record { run = λ t₁ h. turn (c .before .before .before .before .before .before .before .before .before .loop .inv .going t₁ h) (λ t₂ f l h₂. at-word-twice _ _ _ _ _ _ (c .before .before .before .before .before .before .before .before .kind-at .ensures) (sym (c .before .before .before .before .before .before .before .is-word .ensures) ∙ not-false _ (c .before .before .before .before .before .before .if1 .left)) (sym (c .before .before .before .before .before .says-no-type .ensures) ∙ c .before .before .before .before .if3 .left) (sym (c .before .before .before .is-type-word .ensures) ∙ c .before .before .if4 .taken) (sym (c .before .has-base .ensures) ∙ c .if5 .taken) (no! h₂ refl)) }
 
 pub specifiers-wording-requires : (t : ℕ) → specifiers-lts.Need-wording-requires (
   none-reads.Asked,
@@ -1170,7 +1170,7 @@ pub specifiers-returns-4 : (t : ℕ) → specifiers-lts.Need-returns-4 (
   based-on-reads.Asked,
   based-on-reads.Learnt,
 ) (specifiers-at t) specifiers.Post specifiers-Inv-loop specifiers-μ-loop
-specifiers-returns-4 t c = record { run = λ t₁ h. turn (c .before .before .before .before .before .before .before .before .before .before .before .loop .inv .going t₁ h) (λ t₂ f l h₂. at-tag-twice _ _ _ _ _ _ (c .before .before .before .before .before .before .before .before .before .before .kind-at .ensures) (sym (c .before .before .before .before .before .before .before .before .before .is-word .ensures) ∙ not-false _ (c .before .before .before .before .before .before .before .before .if1 .left)) (sym (c .before .before .before .before .before .before .before .says-no-type .ensures) ∙ c .before .before .before .before .before .before .if3 .left) (sym (c .before .before .before .before .before .is-type-word .ensures) ∙ c .before .before .before .before .if4 .left) (sym (c .before .is-tag-word .ensures) ∙ c .if7 .taken) (sym (c .before .before .before .names-type .ensures) ∙ c .before .before .if6 .taken) (no! refl)) }
+specifiers-returns-4 t c = record { run = λ t₁ h. turn (c .before .before .before .before .before .before .before .before .before .before .before .loop .inv .going t₁ h) (λ t₂ f l h₂. at-tag-twice _ _ _ _ _ _ (c .before .before .before .before .before .before .before .before .before .before .kind-at .ensures) (sym (c .before .before .before .before .before .before .before .before .before .is-word .ensures) ∙ not-false _ (c .before .before .before .before .before .before .before .before .if1 .left)) (sym (c .before .before .before .before .before .before .before .says-no-type .ensures) ∙ c .before .before .before .before .before .before .if3 .left) (sym (c .before .before .before .before .before .is-type-word .ensures) ∙ c .before .before .before .before .if4 .left) (sym (c .before .is-tag-word .ensures) ∙ c .if7 .taken) (sym (c .before .before .before .names-type .ensures) ∙ c .before .before .if6 .taken) (no! h₂ refl)) }
 
 pub specifiers-same-length-13 : (t : ℕ) → specifiers-lts.Need-same-length-13 (
   none-reads.Asked,

@@ -138,7 +138,7 @@ pub without-tag-returns : (t : ℕ) → without-tag-lts.Need-returns (
   add-body-reads.Learnt,
 ) (without-tag-at t) without-tag.Post
 unfolding untaggedComposite
-without-tag-returns t c = record { run = λ t₁ h. is- _ _ (c .before .kind-at .ensures) (c .if1 .taken) (no! refl) }
+without-tag-returns t c = record { run = λ t₁ h. is- _ _ (c .before .kind-at .ensures) (c .if1 .taken) (no! h refl) }
 
 pub without-tag-add-moved : (t : ℕ) → without-tag-lts.Need-add-moved (
   kind-at-reads.Asked,

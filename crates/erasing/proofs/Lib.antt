@@ -1,0 +1,4 @@
+pub mod Blanks
+pub mod Names
+pub mod Past
+pub mod Ends
