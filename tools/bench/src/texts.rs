@@ -66,6 +66,8 @@ fn accepted() -> Vec<Text> {
         text("typedefs", typedefs(LONGEST)),
         text("aliases", aliases(LONGEST)),
         text("references", references(LONGEST)),
+        text("tagged", tagged(LONGEST)),
+        text("collisions", collisions(LONGEST)),
         text("prototypes", prototypes(LONGEST)),
         text("comments", comments(LONGEST)),
     ]
@@ -80,6 +82,7 @@ fn refused() -> Vec<Text> {
         text("lock.h-bad-word", lock_with("foo a;\n")),
         text("structs-bad-token", ended("int @;", structs)),
         text("structs-bad-word", ended("foo a;", structs)),
+        text("deep", deep()),
     ]
 }
 
@@ -105,7 +108,7 @@ fn ended(end: &str, make: Maker) -> String {
 type Maker = fn(usize) -> String;
 
 /// Kinds of texts of any length, for growth.
-pub const GROWING: [(&str, Maker); 7] = [
+pub const GROWING: [(&str, Maker); 9] = [
     ("structs", structs),
     ("enumerators", enumerators),
     ("declarators", declarators),
@@ -113,6 +116,8 @@ pub const GROWING: [(&str, Maker); 7] = [
     ("prototypes", prototypes),
     ("aliases", aliases),
     ("references", references),
+    ("tagged", tagged),
+    ("collisions", collisions),
 ];
 
 /// Many small structs; each adds one row.
@@ -195,6 +200,11 @@ fn nested(bytes: usize) -> String {
     filled(bytes, "", one, "")
 }
 
+/// Parameter lists in parameter lists, refused for their depth: no text was found that takes more stack.
+fn deep() -> String {
+    format!("int f({}", "int(".repeat(70))
+}
+
 /// Names of types, and their use.
 fn typedefs(bytes: usize) -> String {
     let one = |i: usize| {
@@ -207,7 +217,7 @@ fn typedefs(bytes: usize) -> String {
     filled(bytes, "", one, "")
 }
 
-/// Many type names, and uses of any of them: ours looks through the rows, the Rust has a map.
+/// Many type names, and uses of any of them.
 fn aliases(bytes: usize) -> String {
     let one = |i: usize| {
         let (a, b, c) = (i / 3, i / 2, i);
@@ -218,7 +228,7 @@ fn aliases(bytes: usize) -> String {
     filled(bytes, "", one, "")
 }
 
-/// Enumerators that name others: ours looks through the values, the Rust has a map.
+/// Enumerators that name others.
 fn references(bytes: usize) -> String {
     filled(
         bytes,
@@ -226,6 +236,27 @@ fn references(bytes: usize) -> String {
         |i| format!("R{:04} = R{:04} + R,\n", i + 1, i / 2),
         "};",
     )
+}
+
+/// A type name that is a tag too, with many rows between the two, and uses of it.
+fn tagged(bytes: usize) -> String {
+    let rows: String = (0..bytes / 100).map(|i| format!("char m{i:03}[{}];\n", i + 1)).collect();
+    filled(
+        bytes,
+        &format!("typedef struct T {{\n{rows}}} T;\n"),
+        |i| format!("struct u{i:03} {{ T aa; T bb; T cc; T dd; T ee; T ff; T gg; }};\n"),
+        "",
+    )
+}
+
+/// Names that are made against the hash of our names: all share one.
+fn collisions(bytes: usize) -> String {
+    let hash = |word: &[u8]| word.iter().fold(0, |h: usize, &b| (33 * h + b as usize) % 4096);
+    let mut words = (0..26usize.pow(6)).filter_map(|n| {
+        let word: Vec<u8> = (0..6).map(|i| b'a' + (n / 26usize.pow(i) % 26) as u8).collect();
+        (hash(&word) == 77).then(|| String::from_utf8(word).unwrap())
+    });
+    filled(bytes, "enum e {\n", |_| format!("{},\n", words.next().unwrap()), "};")
 }
 
 fn prototypes(bytes: usize) -> String {
@@ -244,7 +275,7 @@ fn comments(bytes: usize) -> String {
 }
 
 /// As many units as fit between two ends, then line feeds up to the length.
-fn filled(bytes: usize, before: &str, unit: impl Fn(usize) -> String, after: &str) -> String {
+fn filled(bytes: usize, before: &str, unit: impl FnMut(usize) -> String, after: &str) -> String {
     let mut text = before.to_string();
     for next in (0..).map(unit) {
         if text.len() + next.len() + after.len() > bytes {
