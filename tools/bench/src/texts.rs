@@ -53,6 +53,8 @@ fn accepted() -> Vec<Text> {
         text("int", "int a;".into()),
         text("struct", "struct T{char d;short m[6];};".into()),
         text("100-bytes", HUNDRED_BYTES.into()),
+        text("externs", "extern int name_of_a_variable;\n".repeat(9)),
+        text("licence", licence()),
         text("lock.h", LOCK_H.into()),
         text("structs", structs(LONGEST)),
         text("linked", linked(LONGEST)),
@@ -119,6 +121,11 @@ pub const GROWING: [(&str, Maker); 9] = [
     ("tagged", tagged),
     ("collisions", collisions),
 ];
+
+/// A comment of 600 bytes before one declaration.
+fn licence() -> String {
+    format!("/* {} */\nint a;", "licence text, some words of it ".repeat(19))
+}
 
 /// Many small structs; each adds one row.
 fn structs(bytes: usize) -> String {
