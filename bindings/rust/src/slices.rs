@@ -76,21 +76,28 @@ impl Slices {
     /// Clears the entries of a table.
     fn clear(&mut self, counts: Counts) {
         let words = &mut self.words[..];
-        ROWS.of_mut(words, counts.rows).fill(0);
-        MEMBERS.of_mut(words, counts.members).fill(0);
-        VALUES.of_mut(words, counts.values).fill(0);
-        PARAMETERS.of_mut(words, counts.parameters).fill(0);
-        DECLARATIONS.of_mut(words, counts.declarations).fill(0);
-        NAMES.of_mut(words, counts.names).fill(0);
-        ROW_WIDES.of_mut(&mut self.wides[..], counts.rows).fill(0);
-        MEMBER_WIDES.of_mut(&mut self.wides[..], counts.members).fill(0);
-        self.signeds[..counts.values].fill(0);
+        clear(ROWS.of_mut(words, counts.rows));
+        clear(MEMBERS.of_mut(words, counts.members));
+        clear(VALUES.of_mut(words, counts.values));
+        clear(PARAMETERS.of_mut(words, counts.parameters));
+        clear(DECLARATIONS.of_mut(words, counts.declarations));
+        clear(NAMES.of_mut(words, counts.names));
+        clear(ROW_WIDES.of_mut(&mut self.wides[..], counts.rows));
+        clear(MEMBER_WIDES.of_mut(&mut self.wides[..], counts.members));
+        clear(&mut self.signeds[..counts.values]);
     }
 
     fn are_zero(&self) -> bool {
         self.words.iter().all(|n| *n == 0)
             && self.wides.iter().all(|n| *n == 0)
             && self.signeds.iter().all(|n| *n == 0)
+    }
+}
+
+/// An empty part is passed over: where memory was never used, a `memset` of no bytes takes some 0.1 us on processors with AVX-512 (glibc's stores nothing there, under a mask, and that is slow).
+fn clear<T: Clone + Default>(part: &mut [T]) {
+    if !part.is_empty() {
+        part.fill(T::default());
     }
 }
 

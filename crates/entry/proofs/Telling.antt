@@ -1,15 +1,15 @@
 -- From the tokens to the text, from the front of a slice to the whole, and to what the caller is told. Assumes nothing.
 use mathlib.Core.Path.{_≡_, refl, sym, ap, _∙_}
-use mathlib.Core.Bool.{Bool, true, false, _&&_, _||_}
+use mathlib.Core.Bool.{Bool, true, false, _&&_}
 use mathlib.Core.Option.{Option, none, some}
 use mathlib.Core.List.{List, _∷_, _++_}
-use Prim.Native.Nat.{ℕ, zero, suc, _-_, _≤_, _<_}
+use Prim.Native.Nat.{ℕ, zero, suc, _+_, _-_, _*_, _≤_, _<_}
 use native.Mathlib.Omega.{arith}
-use lib.Dec.{leb, ltb}
+use lib.Dec.{leb}
 use lib.IntN.{ℤ, pos}
 use lib.ListN.{length, take, drop, replicate, length-append, length-replicate, take-append-drop}
 use lib.Seq.{take-at}
-use borrow.Author.Tests.{le-leb, leb-true, le-ltb}
+use borrow.Author.Tests.{le-leb, leb-true}
 use Rattle.definition.specs.Answer.{Answer, got, refused, _>>=_}
 use Rattle.definition.specs.Text.{Bytes}
 use Rattle.definition.specs.Place.{Place, placeOf}
@@ -21,17 +21,19 @@ use Rattle.definition.specs.Lent.{Lent, wordsLength, widesLength, signedsLength
 use Rattle.definition.specs.Table.{newTable}
 use Rattle.table.specs.Held.{Encodes}
 use Rattle.laws.specs.Columns.{Columns}
-use Rattle.laws.proofs.Columns.{tokenize-columns, tokenize-end}
+use Rattle.laws.proofs.Columns.{tokenize-columns, tokenize-end, tokenize-placed}
 use Rattle.laws.proofs.Left.{Long}
 use Rattle.scan.specs.declared.Spot.{Spot}
 use Rattle.scan.specs.Where.{place}
 use Rattle.table.proofs.Branch.{yes, nay}
+use Rattle.chains.specs.Chain.{HeadCount}
+use Rattle.names.specs.Striking.{PlacesBelow}
 use Rattle.tokens.specs.Columns as columns
 use Rattle.tokens.specs.declared.Lexing.{Lexing}
 use Rattle.tokens.specs.declared.Lexing.the-variants.{Done as Lexing·Done, Refused as Lexing·Refused}
 use Rattle.clearing.specs.Slices.{lent}
 use Rattle.entry.proofs.Front.{fresh-front, front-filled}
-use Rattle.entry.specs.Answers.{lexed, firstCursor, countsOf, Read, readTokens, Short, Cleared, Enough, Left, Leaves, asLong, concluded, rejectedAt, out, shown, readLong, Tells, answered, Answers}
+use Rattle.entry.specs.Answers.{lexed, firstCursor, countsOf, Read, readTokens, Scratch, FitsIf, Asked, Cleared, Enough, Left, Leaves, asLong, concluded, rejectedAt, Out, out, shown, readLong, Tells, answered, Answers}
 use Rattle.entry.specs.Answers as answers
 use Rattle.entry.specs.declared.Counts.{Counts}
 use Rattle.entry.specs.declared.Reading.{Reading}
@@ -79,28 +81,35 @@ module _ (text : Bytes) {ks ps ns : List ℕ} {r : Lexing} where
   lexes-no (columns.stop m′ at′ t e) {m} {at} q = let y : m′ ≡ m = cc in let o : at′ ≡ at = cc in t ∙ rw (y, o)
   lexes-no (columns.done x t e i j o) q = let y : _≡_ {A = ℕ} 0 1 = cc in absurd (omega arith)
 
-or-left : (a b : Bool) → (a || b) ≡ true → b ≡ false → a ≡ true
-or-left true b e f = refl
-or-left false b e f = sym f ∙ e
+-- what a text asks for
+pub asks-own : (n : ℕ) → Asked n n
+asks-own n = record { most = omega arith; does = record { run = λ h. omega arith } }
 
--- the test of short texts
-pub short-is : (n : ℕ) → Short (leb n 256 || ltb 32768 n) n
-short-is n = record { fits = λ e. record { run = λ h. leb-true n 256 (or-left (leb n 256) (ltb 32768 n) e (le-ltb 32768 n h)) } }
+module _ {n asked : ℕ} (h : Asked n asked) where
+  pub asks-less : 32768 < asked → (less : ℕ) → less ≤ asked → Asked n less
+  asks-less q less p = let m = h .most in record { most = omega arith; does = record { run = λ l. absurd (omega arith) } }
 
--- columns of zeros as long as a text may be
-module _ (n : ℕ) (text : Bytes) (room : length text ≤ 32768 → length text ≤ n) {ks ps ns : List ℕ} (a : ks ≡ replicate n 0) (b : ps ≡ replicate n 0) (c : ns ≡ replicate n 0) where
-  long-as : (l : List ℕ) → l ≡ replicate n 0 → length l ≡ n
-  long-as l e = ap (λ (x : List ℕ). length x) e ∙ length-replicate n 0
+  pub within : (size : ℕ) → asked ≤ size → FitsIf n size
+  within size q = record { run = λ l. let m = h .does .run l in omega arith }
 
-  zero-as : (l : List ℕ) → l ≡ replicate n 0 → l ≡ replicate (length l) 0
-  zero-as l e = e ∙ ap (λ (i : ℕ). replicate i 0) (sym (long-as l e))
+-- scratch of zeros as long as a text may be
+module _ (n heads : ℕ) (text : Bytes) (room : length text ≤ 32768 → length text ≤ n) (k : HeadCount heads) {ks ps ns ls listed : List ℕ}
+    (a : ks ≡ replicate n 0) (b : ps ≡ replicate n 0) (c : ns ≡ replicate n 0) (d : ls ≡ replicate (heads + 2 * n) 0) (e : listed ≡ replicate n 0) where
+  long-as : (m : ℕ) (l : List ℕ) → l ≡ replicate m 0 → length l ≡ m
+  long-as m l q = ap (λ (x : List ℕ). length x) q ∙ length-replicate m 0
 
-  pub zero-columns : columns.RoomIf text ks ps ns × columns.Zero ks ps ns ks ps ns
-  zero-columns =
-      let x = long-as ks a in let y = long-as ps b in let z = long-as ns c in (
-        record { run = λ h. let k = room h in record { fits = h; kinds = omega arith; places = omega arith; numbers = omega arith } },
-        record { kinds = zero-as ks a; places = zero-as ps b; numbers = zero-as ns c },
-      )
+  zero-as : (m : ℕ) (l : List ℕ) → l ≡ replicate m 0 → l ≡ replicate (length l) 0
+  zero-as m l q = q ∙ ap (λ (i : ℕ). replicate i 0) (sym (long-as m l q))
+
+  pub cleared-scratch : Scratch text ks ps ns ls heads listed
+  cleared-scratch =
+      let x = long-as n ks a in let y = long-as n ps b in let z = long-as n ns c in let u = long-as (heads + 2 * n) ls d in let v = long-as n listed e in
+      record {
+        columns = record { run = λ h. let r = room h in record { fits = h; kinds = omega arith; places = omega arith; numbers = omega arith } };
+        zero = record { kinds = zero-as n ks a; places = zero-as n ps b; numbers = zero-as n ns c };
+        links = record { hashes = k; zero = zero-as (heads + 2 * n) ls d; run = λ h. let r = room h in omega arith };
+        list = λ h. let r = room h in omega arith;
+      }
 
 module _ {text : Bytes} {ks ps ns : List ℕ} {count : ℕ} (h : Lexes text ks ps ns count) where
   pub text-columns : Columns (take count ks) (take count ps) (take count ns)
@@ -109,6 +118,13 @@ module _ {text : Bytes} {ks ps ns : List ℕ} {count : ℕ} (h : Lexes text ks p
       let b : take count ps ≡ x .places = ap (λ (y : Lexed). y .places) e in
       let c : take count ns ≡ x .tokens .numbers = ap (λ (y : Lexed). y .tokens .numbers) e in
       rw (a, b, c) (tokenize-columns text .of x (h .says))
+
+  -- places in a list that has an entry for each byte
+  pub text-places : (listed : List ℕ) → (length text ≤ 32768 → length text ≤ length listed) → PlacesBelow (take count ps) (length listed)
+  text-places listed f = let x = h .tokens in
+      let p = tokenize-placed text .of x (h .says) in
+      let b : take count ps ≡ x .places = ap (λ (y : Lexed). y .places) (h .same) in
+      record { at = rw b (λ i l. let q = p .below i l in let m = f (p .short) in omega arith) }
 
   pub text-done : (entry : meant.Entry) (m : Model) {r : Reading} {w d w′ d′ : List ℕ} {v v′ : List ℤ}
       → Read (readTokens entry (lexed (take count ks) (take count ps) (take count ns) (length text)) m) w d v r w′ d′ v′ → Read (meant.readWith m entry text) w d v r w′ d′ v′
@@ -280,3 +296,20 @@ module _ (model : ℕ) (entry : meant.Entry) (text : Bytes) (r : Outcome) (w d :
   -- slices that were zero when they were lent
   pub answer-zeros : {w′ d′ : List ℕ} {v′ : List ℤ} → Cleared w d v → Answers model entry text w d v r w′ d′ v′ → out r (lent w′ d′ v′) ≡ answered (lent w d v) model entry text
   answer-zeros c a = a .run (lent w d v) (c .is ∙ sym (zeroed-again (c .of) w d v (c .is) w d v refl refl refl))
+
+-- an answer depends on the slices' lengths alone
+long-zeroed : (l : Lent) → longEnough (zeroed l) ≡ longEnough l
+unfolding longEnough zeroed
+long-zeroed l = rw (length-replicate {A = ℕ} (length (l .words)) 0, length-replicate {A = ℕ} (length (l .wides)) 0, length-replicate (length (l .signeds)) (pos 0))
+
+shown-zeroed : (l : Lent) (o : meant.Outcome) → shown (zeroed l) o ≡ shown l o
+unfolding shown leftIn zeroed
+shown-zeroed l (meant.accepted a) = rw (length-replicate {A = ℕ} (length (l .words)) 0, length-replicate {A = ℕ} (length (l .wides)) 0, length-replicate (length (l .signeds)) (pos 0))
+shown-zeroed l (meant.rejected n at line column) = rw (length-replicate {A = ℕ} (length (l .words)) 0, length-replicate {A = ℕ} (length (l .wides)) 0, length-replicate (length (l .signeds)) (pos 0))
+
+answered-zeroed : (l : Lent) (model : ℕ) (entry : meant.Entry) (text : Bytes) → answered (zeroed l) model entry text ≡ answered l model entry text
+unfolding answered
+answered-zeroed l model entry text = shown-zeroed l (meant.outcome model (longEnough (zeroed l)) entry text) ∙ ap (λ (b : Bool). shown l (meant.outcome model b entry text)) (long-zeroed l)
+
+pub answered-cleared : (l l′ : Lent) (model : ℕ) (entry : meant.Entry) (text : Bytes) {o : Out} → l′ ≡ zeroed l → o ≡ answered l′ model entry text → o ≡ answered l model entry text
+answered-cleared l l′ model entry text e q = q ∙ (ap (λ (x : Lent). answered x model entry text) e ∙ answered-zeroed l model entry text)

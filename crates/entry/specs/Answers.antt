@@ -23,6 +23,7 @@ use Rattle.table.specs.declared.Cursor.{Cursor}
 use Rattle.table.specs.declared.Move.{Move}
 use Rattle.table.specs.declared.Move.the-variants.{To, Refused as Move·Refused}
 use Rattle.clearing.specs.Slices.{lent}
+use Rattle.tokens.specs.Columns.{RoomIf, Zero, LinksIf}
 use Rattle.entry.specs.declared.Counts.{Counts}
 use Rattle.entry.specs.declared.Entry.{Entry}
 use Rattle.entry.specs.declared.Entry.the-variants.{WholeHeader, SingleDeclaration}
@@ -84,17 +85,36 @@ readTokens entry x m = do
 abbrev pub Reads : meant.Entry → Lexed → Model → List ℕ → List ℕ → List ℤ → Reading → List ℕ → List ℕ → List ℤ → Type 0
 Reads entry x m = Read (readTokens entry x m)
 
--- a text that is not longer is cut into columns of this length
+-- ---- scratch
+
+-- for a text that is not too long, cleared: columns for its tokens, links of its names, and a list of them, with an entry for each byte
+pub record Scratch (text : Bytes) (ks ps ns ls : List ℕ) (heads : ℕ) (listed : List ℕ) : Type 0 where
+  pub columns : RoomIf text ks ps ns
+  pub zero : Zero ks ps ns ks ps ns
+  pub links : LinksIf text ls heads
+  pub list : length text ≤ maxText → length text ≤ length listed
+
+-- the lengths that there are, but for the longest
+abbrev pub tinyText : ℕ
+tinyText = 64
+
 abbrev pub smallText : ℕ
-smallText = 256
+smallText = 320
 
--- a text that is not too long fits in them
-pub record ShortIf (n : ℕ) : Type 0 where
-  pub run : n ≤ maxText → n ≤ smallText
+abbrev pub middleText : ℕ
+middleText = 1536
 
--- the answer of a test of that
-pub record Short (r : Bool) (n : ℕ) : Type 0 where
-  pub fits : r ≡ true → ShortIf n
+abbrev pub largeText : ℕ
+largeText = 7168
+
+-- a text of some length, that is not too long, is not longer
+pub record FitsIf (n size : ℕ) : Type 0 where
+  pub run : n ≤ maxText → n ≤ size
+
+-- a length of scratch to ask for: that of the text, or any lesser one where the text is too long
+pub record Asked (n asked : ℕ) : Type 0 where
+  pub most : asked ≤ n
+  pub does : FitsIf n asked
 
 -- ---- lent slices of any length
 

@@ -1,4 +1,7 @@
 // The two entries on texts: `translation_unit` and `declaration`, over slices that the caller lends.
+use chains::FEW_HEADS;
+use chains::HEADS;
+use chains::LINKS;
 use clearing::clear;
 use erasing::clear_left;
 use names::fill_names;
@@ -16,6 +19,7 @@ use words::kinds::END;
 use words::model::Model;
 use words::model::ModelFound;
 ghost use mathlib.Core.Path.{_≡_};
+ghost use Prim.Native.Nat.{_≤_};
 ghost use lib.ListN.{length};
 ghost use Rattle.definition.specs.Token.{here};
 ghost use Rattle.definition.specs.Entry.{parse, readWith, wholeHeader, singleDeclaration};
@@ -23,11 +27,11 @@ ghost use Rattle.definition.specs.Table.{newTable};
 ghost use Rattle.words.specs.Meaning.{model};
 ghost use Rattle.table.specs.Held.{Encodes};
 ghost use Rattle.laws.specs.Columns.{Columns};
-ghost use Rattle.tokens.specs.Columns.{RoomIf, Zero};
+ghost use Rattle.names.specs.Striking.{PlacesBelow};
 ghost use Rattle.clearing.specs.Slices.{lent};
 ghost use Rattle.definition.specs.Lent.{longEnough};
 ghost use Rattle.entry.specs.Walking.{Walkable};
-ghost use Rattle.entry.specs.Answers.{entryOf, lexed, firstCursor, countsFrom, Parses, Read, Reads, Short, ShortIf, Cleared, Enough, Leaves, asLong, concluded, rejectedAt, out, answered, Answers};
+ghost use Rattle.entry.specs.Answers.{entryOf, lexed, firstCursor, countsFrom, Parses, Read, Reads, Scratch, tinyText, smallText, middleText, largeText, FitsIf, Asked, Cleared, Enough, Leaves, asLong, concluded, rejectedAt, out, answered, Answers};
 
 // A lent slice must be as long.
 pub const WORDS: usize = 78848;
@@ -36,8 +40,24 @@ pub const WIDES: usize = 9216;
 
 pub const SIGNEDS: usize = 4096;
 
-// A text that is not longer is cut in columns of this length: the long ones cost more to clear than a short text to read.
-const SMALL_TEXT: usize = 256;
+// A text is read in scratch of the first of these lengths that is not less than its own: all of it has to be cleared.
+const TINY_TEXT: usize = 64;
+
+const SMALL_TEXT: usize = 320;
+
+const MIDDLE_TEXT: usize = 1536;
+
+const LARGE_TEXT: usize = 7168;
+
+const TINY_LINKS: usize = FEW_HEADS + LINKS * TINY_TEXT;
+
+const SMALL_LINKS: usize = FEW_HEADS + LINKS * SMALL_TEXT;
+
+const MIDDLE_LINKS: usize = FEW_HEADS + LINKS * MIDDLE_TEXT;
+
+const LARGE_LINKS: usize = HEADS + LINKS * LARGE_TEXT;
+
+const MAX_LINKS: usize = HEADS + LINKS * MAX_TEXT;
 
 // "`declaration` finds .. more than one name".
 const NOT_ONE_DECLARATION: u32 = 24;
@@ -185,6 +205,7 @@ fn read_tokens(
     kinds: &[u32],
     places: &[u32],
     numbers: &[u64],
+    listed: &mut [u32],
     end: usize,
     m: Model,
     w: &mut [u32],
@@ -192,13 +213,14 @@ fn read_tokens(
     v: &mut [i64],
 ) -> Reading
     requires { ⌜ Columns (now kinds) (now places) (now numbers) ⌝ }
+    requires { ⌜ PlacesBelow (now places) (length (now listed)) ⌝ }
     requires { ⌜ Encodes newTable firstCursor (now w) (now d) (now v) ⌝ }
     ensures { λ r. ⌜ Reads (entryOf entry) (lexed (now (kinds .entry)) (now (places .entry)) (now (numbers .entry)) end) (model m) (now (w .entry)) (now (d .entry)) (now (v .entry)) r (now (w .exit)) (now (d .exit)) (now (v .exit)) ⌝ }
 {
     let r = parse_tokens(entry, kinds, places, numbers, end, m, w, d, v);
     match r {
         Move::To(c) => {
-            let names = fill_names(kinds, places, numbers, w, c);
+            let names = fill_names(kinds, places, numbers, listed, w, c);
             Reading::Done(counted(c, names))
         }
         Move::Refused(n, p) => {
@@ -208,30 +230,33 @@ fn read_tokens(
     }
 }
 
-// A text cut in columns of zeros, and read into a new table.
+// A text cut in cleared columns, and read into a new table.
 fn read_columns(
     entry: Entry,
     text: &[u8],
     kinds: &mut [u32],
     places: &mut [u32],
     numbers: &mut [u64],
+    links: &mut [u16],
+    heads: usize,
+    listed: &mut [u32],
     m: Model,
     w: &mut [u32],
     d: &mut [u64],
     v: &mut [i64],
 ) -> Reading
-    requires { ⌜ RoomIf (now text) (now kinds) (now places) (now numbers) ⌝ }
-    requires { ⌜ Zero (now kinds) (now places) (now numbers) (now kinds) (now places) (now numbers) ⌝ }
+    requires { ⌜ Scratch (now text) (now kinds) (now places) (now numbers) (now links) heads (now listed) ⌝ }
     requires { ⌜ Encodes newTable firstCursor (now w) (now d) (now v) ⌝ }
     ensures { λ r. ⌜ Read (readWith (model m) (entryOf entry) (now (text .entry))) (now (w .entry)) (now (d .entry)) (now (v .entry)) r (now (w .exit)) (now (d .exit)) (now (v .exit)) ⌝ }
 {
-    let r = lex(text, kinds, places, numbers);
+    let r = lex(text, kinds, places, numbers, links, heads);
     match r {
         Lexing::Done(count) => read_tokens(
             entry,
             &kinds[..count],
             &places[..count],
             &numbers[..count],
+            listed,
             text.len(),
             m,
             w,
@@ -249,13 +274,15 @@ fn read_front(
     kinds: &mut [u32],
     places: &mut [u32],
     numbers: &mut [u64],
+    links: &mut [u16],
+    heads: usize,
+    listed: &mut [u32],
     m: Model,
     w: &mut [u32],
     d: &mut [u64],
     v: &mut [i64],
 ) -> Reading
-    requires { ⌜ RoomIf (now text) (now kinds) (now places) (now numbers) ⌝ }
-    requires { ⌜ Zero (now kinds) (now places) (now numbers) (now kinds) (now places) (now numbers) ⌝ }
+    requires { ⌜ Scratch (now text) (now kinds) (now places) (now numbers) (now links) heads (now listed) ⌝ }
     requires { ⌜ Cleared (now w) (now d) (now v) ⌝ }
     requires { ⌜ Enough (now w) (now d) (now v) ⌝ }
     ensures { λ r. ⌜ Leaves (readWith (model m) (entryOf entry) (now (text .entry))) (now (w .entry)) (now (d .entry)) (now (v .entry)) r (now (w .exit)) (now (d .exit)) (now (v .exit)) ⌝ }
@@ -266,6 +293,9 @@ fn read_front(
         kinds,
         places,
         numbers,
+        links,
+        heads,
+        listed,
         m,
         &mut w[..WORDS],
         &mut d[..WIDES],
@@ -299,22 +329,25 @@ fn conclude(text: &[u8], reading: Reading) -> Outcome
     }
 }
 
-// In slices that are zero throughout: a text that needs no more than short columns.
-fn read_small(
+// In slices that are zero throughout, with scratch for the text. An unknown number of a model and slices that are too short are refused first.
+fn read(
     entry: Entry,
     text: &[u8],
+    kinds: &mut [u32],
+    places: &mut [u32],
+    numbers: &mut [u64],
+    links: &mut [u16],
+    heads: usize,
+    listed: &mut [u32],
     number: u32,
     w: &mut [u32],
     d: &mut [u64],
     v: &mut [i64],
 ) -> Outcome
-    requires { ⌜ ShortIf (length (now text)) ⌝ }
+    requires { ⌜ Scratch (now text) (now kinds) (now places) (now numbers) (now links) heads (now listed) ⌝ }
     requires { ⌜ Cleared (now w) (now d) (now v) ⌝ }
     ensures { λ r. ⌜ Answers number (entryOf entry) (now (text .entry)) (now (w .entry)) (now (d .entry)) (now (v .entry)) r (now (w .exit)) (now (d .exit)) (now (v .exit)) ⌝ }
 {
-    let mut kinds = [0u32; SMALL_TEXT];
-    let mut places = [0u32; SMALL_TEXT];
-    let mut numbers = [0u64; SMALL_TEXT];
     let found = Model::numbered(number);
     match found {
         ModelFound::Found(m) => {
@@ -322,9 +355,12 @@ fn read_small(
                 let r = read_front(
                     entry,
                     text,
-                    &mut kinds,
-                    &mut places,
-                    &mut numbers,
+                    kinds,
+                    places,
+                    numbers,
+                    links,
+                    heads,
+                    listed,
                     m,
                     w,
                     d,
@@ -338,8 +374,141 @@ fn read_small(
     }
 }
 
-// Any text, in the same.
+// Scratch of each length.
+fn read_tiny(
+    entry: Entry,
+    text: &[u8],
+    number: u32,
+    w: &mut [u32],
+    d: &mut [u64],
+    v: &mut [i64],
+) -> Outcome
+    requires { ⌜ FitsIf (length (now text)) tinyText ⌝ }
+    requires { ⌜ Cleared (now w) (now d) (now v) ⌝ }
+    ensures { λ r. ⌜ Answers number (entryOf entry) (now (text .entry)) (now (w .entry)) (now (d .entry)) (now (v .entry)) r (now (w .exit)) (now (d .exit)) (now (v .exit)) ⌝ }
+{
+    let mut kinds = [0u32; TINY_TEXT];
+    let mut places = [0u32; TINY_TEXT];
+    let mut numbers = [0u64; TINY_TEXT];
+    let mut links = [0u16; TINY_LINKS];
+    let mut listed = [0u32; TINY_TEXT];
+    read(
+        entry,
+        text,
+        &mut kinds,
+        &mut places,
+        &mut numbers,
+        &mut links,
+        FEW_HEADS,
+        &mut listed,
+        number,
+        w,
+        d,
+        v,
+    )
+}
+
+fn read_small(
+    entry: Entry,
+    text: &[u8],
+    number: u32,
+    w: &mut [u32],
+    d: &mut [u64],
+    v: &mut [i64],
+) -> Outcome
+    requires { ⌜ FitsIf (length (now text)) smallText ⌝ }
+    requires { ⌜ Cleared (now w) (now d) (now v) ⌝ }
+    ensures { λ r. ⌜ Answers number (entryOf entry) (now (text .entry)) (now (w .entry)) (now (d .entry)) (now (v .entry)) r (now (w .exit)) (now (d .exit)) (now (v .exit)) ⌝ }
+{
+    let mut kinds = [0u32; SMALL_TEXT];
+    let mut places = [0u32; SMALL_TEXT];
+    let mut numbers = [0u64; SMALL_TEXT];
+    let mut links = [0u16; SMALL_LINKS];
+    let mut listed = [0u32; SMALL_TEXT];
+    read(
+        entry,
+        text,
+        &mut kinds,
+        &mut places,
+        &mut numbers,
+        &mut links,
+        FEW_HEADS,
+        &mut listed,
+        number,
+        w,
+        d,
+        v,
+    )
+}
+
+fn read_middle(
+    entry: Entry,
+    text: &[u8],
+    number: u32,
+    w: &mut [u32],
+    d: &mut [u64],
+    v: &mut [i64],
+) -> Outcome
+    requires { ⌜ FitsIf (length (now text)) middleText ⌝ }
+    requires { ⌜ Cleared (now w) (now d) (now v) ⌝ }
+    ensures { λ r. ⌜ Answers number (entryOf entry) (now (text .entry)) (now (w .entry)) (now (d .entry)) (now (v .entry)) r (now (w .exit)) (now (d .exit)) (now (v .exit)) ⌝ }
+{
+    let mut kinds = [0u32; MIDDLE_TEXT];
+    let mut places = [0u32; MIDDLE_TEXT];
+    let mut numbers = [0u64; MIDDLE_TEXT];
+    let mut links = [0u16; MIDDLE_LINKS];
+    let mut listed = [0u32; MIDDLE_TEXT];
+    read(
+        entry,
+        text,
+        &mut kinds,
+        &mut places,
+        &mut numbers,
+        &mut links,
+        FEW_HEADS,
+        &mut listed,
+        number,
+        w,
+        d,
+        v,
+    )
+}
+
 fn read_large(
+    entry: Entry,
+    text: &[u8],
+    number: u32,
+    w: &mut [u32],
+    d: &mut [u64],
+    v: &mut [i64],
+) -> Outcome
+    requires { ⌜ FitsIf (length (now text)) largeText ⌝ }
+    requires { ⌜ Cleared (now w) (now d) (now v) ⌝ }
+    ensures { λ r. ⌜ Answers number (entryOf entry) (now (text .entry)) (now (w .entry)) (now (d .entry)) (now (v .entry)) r (now (w .exit)) (now (d .exit)) (now (v .exit)) ⌝ }
+{
+    let mut kinds = [0u32; LARGE_TEXT];
+    let mut places = [0u32; LARGE_TEXT];
+    let mut numbers = [0u64; LARGE_TEXT];
+    let mut links = [0u16; LARGE_LINKS];
+    let mut listed = [0u32; LARGE_TEXT];
+    read(
+        entry,
+        text,
+        &mut kinds,
+        &mut places,
+        &mut numbers,
+        &mut links,
+        HEADS,
+        &mut listed,
+        number,
+        w,
+        d,
+        v,
+    )
+}
+
+// Any text.
+fn read_longest(
     entry: Entry,
     text: &[u8],
     number: u32,
@@ -353,52 +522,72 @@ fn read_large(
     let mut kinds = [0u32; MAX_TEXT];
     let mut places = [0u32; MAX_TEXT];
     let mut numbers = [0u64; MAX_TEXT];
-    let found = Model::numbered(number);
-    match found {
-        ModelFound::Found(m) => {
-            if long_enough(w.len(), d.len(), v.len()) {
-                let r = read_front(
-                    entry,
-                    text,
-                    &mut kinds,
-                    &mut places,
-                    &mut numbers,
-                    m,
-                    w,
-                    d,
-                    v,
-                );
-                return conclude(text, r);
-            }
-            reject(text, BAD_CALL, 0)
-        }
-        ModelFound::Unknown => reject(text, BAD_CALL, 0),
-    }
+    let mut links = [0u16; MAX_LINKS];
+    let mut listed = [0u32; MAX_TEXT];
+    read(
+        entry,
+        text,
+        &mut kinds,
+        &mut places,
+        &mut numbers,
+        &mut links,
+        HEADS,
+        &mut listed,
+        number,
+        w,
+        d,
+        v,
+    )
 }
 
-// Whether short columns do: a text that is too long is refused before it is cut.
-fn is_short(length: usize) -> bool
-    ensures { λ r. ⌜ Short r length ⌝ }
-{
-    (length <= SMALL_TEXT) | (MAX_TEXT < length)
-}
-
-// The choice of columns stands in each entry and not in a function between: a call touches every page of its frame, and long columns must lie in no frame on the way of a short text.
-fn read(
+fn read_short(
     entry: Entry,
     text: &[u8],
+    asked: usize,
     number: u32,
     w: &mut [u32],
     d: &mut [u64],
     v: &mut [i64],
 ) -> Outcome
-    ensures { λ r. ⌜ out r (lent (now (w .exit)) (now (d .exit)) (now (v .exit))) ≡ answered (lent (now (w .entry)) (now (d .entry)) (now (v .entry))) number (entryOf entry) (now (text .entry)) ⌝ }
+    requires { ⌜ Asked (length (now text)) asked ⌝ }
+    requires { ⌜ asked ≤ smallText ⌝ }
+    requires { ⌜ Cleared (now w) (now d) (now v) ⌝ }
+    ensures { λ r. ⌜ Answers number (entryOf entry) (now (text .entry)) (now (w .entry)) (now (d .entry)) (now (v .entry)) r (now (w .exit)) (now (d .exit)) (now (v .exit)) ⌝ }
 {
-    clear(w, d, v);
-    if is_short(text.len()) {
-        return read_small(entry, text, number, w, d, v);
+    if asked <= TINY_TEXT {
+        return read_tiny(entry, text, number, w, d, v);
     }
-    read_large(entry, text, number, w, d, v)
+    read_small(entry, text, number, w, d, v)
+}
+
+// In the least scratch that does. Any does for a text that is too long: it is refused before it is cut. As this calls itself, the compiler takes no large frame into its own;
+// else all scratch would lie in one frame, and every call would touch its pages.
+fn read_asked(
+    entry: Entry,
+    text: &[u8],
+    asked: usize,
+    number: u32,
+    w: &mut [u32],
+    d: &mut [u64],
+    v: &mut [i64],
+) -> Outcome
+    requires { ⌜ Asked (length (now text)) asked ⌝ }
+    requires { ⌜ Cleared (now w) (now d) (now v) ⌝ }
+    ensures { λ r. ⌜ Answers number (entryOf entry) (now (text .entry)) (now (w .entry)) (now (d .entry)) (now (v .entry)) r (now (w .exit)) (now (d .exit)) (now (v .exit)) ⌝ }
+{
+    if MAX_TEXT < asked {
+        return read_asked(entry, text, asked / MAX_TEXT, number, w, d, v);
+    }
+    if asked <= SMALL_TEXT {
+        return read_short(entry, text, asked, number, w, d, v);
+    }
+    if asked <= MIDDLE_TEXT {
+        return read_middle(entry, text, number, w, d, v);
+    }
+    if asked <= LARGE_TEXT {
+        return read_large(entry, text, number, w, d, v);
+    }
+    read_longest(entry, text, number, w, d, v)
 }
 
 // A whole header.
@@ -412,7 +601,8 @@ pub fn translation_unit(
     ensures { λ r. ⌜ out r (lent (now (w .exit)) (now (d .exit)) (now (v .exit))) ≡ answered (lent (now (w .entry)) (now (d .entry)) (now (v .entry))) model wholeHeader (now (text .entry)) ⌝ }
     ensures { λ r. ⌜ Walkable model (longEnough (lent (now (w .entry)) (now (d .entry)) (now (v .entry)))) wholeHeader (now (text .entry)) ⌝ }
 {
-    read(Entry::WholeHeader, text, model, w, d, v)
+    clear(w, d, v);
+    translation_unit_in_zeros(text, model, w, d, v)
 }
 
 // One declaration.
@@ -420,7 +610,8 @@ pub fn declaration(text: &[u8], model: u32, w: &mut [u32], d: &mut [u64], v: &mu
     ensures { λ r. ⌜ out r (lent (now (w .exit)) (now (d .exit)) (now (v .exit))) ≡ answered (lent (now (w .entry)) (now (d .entry)) (now (v .entry))) model singleDeclaration (now (text .entry)) ⌝ }
     ensures { λ r. ⌜ Walkable model (longEnough (lent (now (w .entry)) (now (d .entry)) (now (v .entry)))) singleDeclaration (now (text .entry)) ⌝ }
 {
-    read(Entry::SingleDeclaration, text, model, w, d, v)
+    clear(w, d, v);
+    declaration_in_zeros(text, model, w, d, v)
 }
 
 // A whole header, in slices that are zero throughout: who keeps them so between calls need not pay for clearing 422 KB.
@@ -435,10 +626,7 @@ pub fn translation_unit_in_zeros(
     ensures { λ r. ⌜ out r (lent (now (w .exit)) (now (d .exit)) (now (v .exit))) ≡ answered (lent (now (w .entry)) (now (d .entry)) (now (v .entry))) model wholeHeader (now (text .entry)) ⌝ }
     ensures { λ r. ⌜ Walkable model (longEnough (lent (now (w .entry)) (now (d .entry)) (now (v .entry)))) wholeHeader (now (text .entry)) ⌝ }
 {
-    if is_short(text.len()) {
-        return read_small(Entry::WholeHeader, text, model, w, d, v);
-    }
-    read_large(Entry::WholeHeader, text, model, w, d, v)
+    read_asked(Entry::WholeHeader, text, text.len(), model, w, d, v)
 }
 
 // One declaration, in the same.
@@ -453,8 +641,5 @@ pub fn declaration_in_zeros(
     ensures { λ r. ⌜ out r (lent (now (w .exit)) (now (d .exit)) (now (v .exit))) ≡ answered (lent (now (w .entry)) (now (d .entry)) (now (v .entry))) model singleDeclaration (now (text .entry)) ⌝ }
     ensures { λ r. ⌜ Walkable model (longEnough (lent (now (w .entry)) (now (d .entry)) (now (v .entry)))) singleDeclaration (now (text .entry)) ⌝ }
 {
-    if is_short(text.len()) {
-        return read_small(Entry::SingleDeclaration, text, model, w, d, v);
-    }
-    read_large(Entry::SingleDeclaration, text, model, w, d, v)
+    read_asked(Entry::SingleDeclaration, text, text.len(), model, w, d, v)
 }

@@ -19,7 +19,7 @@ use Rattle.definition.specs.Token.{Token, Lexed, columns}
 use Rattle.definition.specs.NameTable.{nameTable}
 use Rattle.definition.specs.Cut.{Cutting, cutAll, start, cut, tokenize}
 use Rattle.laws.specs.Every.{Every}
-use Rattle.laws.specs.Columns.{Columns, LexedColumns}
+use Rattle.laws.specs.Columns.{Columns, LexedColumns, PlacedIn}
 use Rattle.laws.proofs.Every.{got!, no!, test!, then!, any! }
 use Rattle.laws.proofs.Spaced.{Given, new, old, Step, skip, token, name, cutNext-step, FewNames, tokenize-few}
 
@@ -163,6 +163,15 @@ pub tokenize-columns : (text : Bytes) → Every LexedColumns (tokenize text)
 tokenize-columns text = record {
   of = λ x e. let f = tokenize-good text .of x e in
       rw (f .is) (columns-good (length text) (f .state) (f .short) (f .good) (rw (f .is) at (tokenize-few text .of x e)));
+}
+
+places-in : (n : ℕ) (s : Cutting) → Good n s → (i : ℕ) → i < length (columns (s .tokens) n .places) → getD (columns (s .tokens) n .places) i 0 < n
+unfolding columns
+places-in n s h i l = rw (getD-map (λ t. t .place) refl (s .tokens) i) (h .fine i (omega (arith, length-map (s .tokens) (λ t. t .place))) .within)
+
+pub tokenize-placed : (text : Bytes) → Every (PlacedIn text) (tokenize text)
+tokenize-placed text = record {
+  of = λ x e. let f = tokenize-good text .of x e in record { short = f .short; below = rw (f .is) (places-in (length text) (f .state) (f .good)) };
 }
 
 -- no more tokens than a text may have bytes

@@ -6,6 +6,7 @@ use Prim.Native.Nat.{ℕ, _≤_, _<_, _^_}
 use lib.ListN.{length, getD}
 use Rattle.definition.specs.Kind.{isName}
 use Rattle.definition.specs.Limit.{maxText, maxNames}
+use Rattle.definition.specs.Text.{Bytes}
 use Rattle.definition.specs.Token.{Lexed}
 use Rattle.definition.specs.Table.{Table}
 use Rattle.definition.specs.NameTable.{heldNames, namesAmong}
@@ -25,3 +26,8 @@ pub record Columns (ks ps ns : List ℕ) : Type 0 where
 
 abbrev pub LexedColumns : Lexed → Type 0
 LexedColumns x = Columns (x .tokens .kinds) (x .places) (x .tokens .numbers)
+
+-- a text that is cut is not too long, and its tokens stand in it
+pub record PlacedIn (text : Bytes) (x : Lexed) : Type 0 where
+  pub short : length text ≤ maxText
+  pub below : (i : ℕ) → i < length (x .places) → getD (x .places) i 0 < length text

@@ -2,7 +2,7 @@
 use mathlib.Core.Path.{_≡_, refl, sym, ap, _∙_}
 use mathlib.Core.Bool.{Bool, true, false, _&&_, _||_}
 use mathlib.Core.List.{List, [], _∷_, _++_}
-use Prim.Native.Nat.{ℕ, _+_, _-_, _*_, _≤_, _<_}
+use Prim.Native.Nat.{ℕ, _+_, _*_, _≤_, _<_}
 use native.Mathlib.Omega.{arith}
 use native.Mathlib.Numerals.{add-one}
 use lib.Dec.{eqb}
@@ -11,27 +11,10 @@ use lib.Seq.{getD-set-same, getD-set-other}
 use borrow.Author.Tests.{ne-eqb, eqb-true, eqb-false}
 use Rattle.definition.specs.Kind.{isName}
 use Rattle.definition.specs.Name.{offsetOf}
-use Rattle.definition.specs.Limit.{maxText}
 use Rattle.definition.specs.NameTable.{isHeld}
 use Rattle.laws.specs.Columns.{Columns}
 use Rattle.names.specs.Names.{isFirst}
-use Rattle.names.specs.Striking.{column, lastPlace, PlacesBelow, Listed, slot, left, Struck, Found}
-
--- ---- places
-
-module _ {ks ps ns : List ℕ} (c : Columns ks ps ns) where
-  pub all-below : PlacesBelow ps maxText
-  all-below = record { at = λ i l. c .within i (omega (arith, c .places)) }
-
-  -- the last is the greatest
-  pub last-below : (n : ℕ) → lastPlace ps < n → PlacesBelow ps n
-  last-below n q = record { at = λ i l. go i l (eqb i (length ps - 1)) refl }
-    where
-      go : (i : ℕ) → i < length ps → (b : Bool) → eqb i (length ps - 1) ≡ b → getD ps i 0 < n
-      go i l true t = let z : i ≡ length ps - 1 = eqb-true i (length ps - 1) t in rw z q
-      go i l false t =
-          let z : i < length ps - 1 = omega (arith, eqb-false i (length ps - 1) t) in
-          omega (arith, c .rising i (length ps - 1) z (omega (arith, c .places)))
+use Rattle.names.specs.Striking.{column, PlacesBelow, Listed, slot, left, Struck, Found}
 
 -- ---- listing
 

@@ -2,7 +2,7 @@
 use mathlib.Core.Path.{_≡_}
 use mathlib.Core.Bool.{Bool, true, false, _||_}
 use mathlib.Core.List.{List, [], _∷_, _++_}
-use Prim.Native.Nat.{ℕ, zero, suc, _+_, _-_, _*_, _<_}
+use Prim.Native.Nat.{ℕ, zero, suc, _+_, _*_, _<_}
 use lib.Dec.{eqb}
 use lib.ListN.{length, getD}
 use Rattle.definition.specs.Name.{offsetOf}
@@ -19,14 +19,6 @@ use Rattle.names.specs.Names.{isFirst, Plain, ColumnsOf, NamesIn}
 unfoldable pub column : List ℕ → ℕ → ℕ → ℕ → List ℕ
 column w start width zero = []
 column w start width (suc i) = column w start width i ++ getD w (start + width * i) 0 ∷ []
-
--- a text whose tokens all stand below it is small
-abbrev pub smallText : ℕ
-smallText = 256
-
--- the place of the last token, 0 of none
-abbrev pub lastPlace : List ℕ → ℕ
-lastPlace ps = getD ps (length ps - 1) 0
 
 -- a list of n numbers has one for every place
 pub record PlacesBelow (ps : List ℕ) (n : ℕ) : Type 0 where

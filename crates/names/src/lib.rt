@@ -22,13 +22,7 @@ ghost use Rattle.definition.specs.Lent.{wordsLength};
 ghost use Rattle.table.specs.Held.{Room};
 ghost use Rattle.laws.specs.Columns.{Columns};
 ghost use Rattle.names.specs.Names.{isFirst, HeldWords, Writes};
-ghost use Rattle.names.specs.Striking.{column, smallText, lastPlace, PlacesBelow, Listed, Struck, Strikes, Ready, Fills, PlainWords, WritesPlain};
-
-// A text has at most as many bytes.
-pub const MAX_TEXT: usize = 32768;
-
-// Where the last token stands below it, so do all: the list of names is shorter, and less has to be cleared.
-const SMALL_TEXT: usize = 256;
+ghost use Rattle.names.specs.Striking.{column, PlacesBelow, Listed, Struck, Strikes, Ready, Fills, PlainWords, WritesPlain};
 
 pub const NAMES_AT: usize = 46080;
 
@@ -178,47 +172,21 @@ fn fill(
     write(kinds, places, numbers, listed, w)
 }
 
-// All tokens stand below SMALL_TEXT.
-fn fill_small(kinds: &[u32], places: &[u32], numbers: &[u64], w: &mut [u32], c: Cursor) -> usize
+// Fills the names' part of the slice, in place of the index, with the names that the table's entries hold; their number. The columns are those of a text's tokens. The list is scratch:
+// it has a number for every place, and nothing is said of it.
+pub fn fill_names(
+    kinds: &[u32],
+    places: &[u32],
+    numbers: &[u64],
+    listed: &mut [u32],
+    w: &mut [u32],
+    c: Cursor,
+) -> usize
     requires { ⌜ Columns (now kinds) (now places) (now numbers) ⌝ }
-    requires { ⌜ PlacesBelow (now places) smallText ⌝ }
-    requires { ⌜ PlainWords c (now w) ⌝ }
-    ensures { λ r. ⌜ WritesPlain (now (kinds .entry)) (now (places .entry)) (now (numbers .entry)) c (now (w .entry)) r (now (w .exit)) ⌝ }
-{
-    let mut listed = [0u32; SMALL_TEXT];
-    fill(kinds, places, numbers, &mut listed, w, c)
-}
-
-// Tokens stand wherever a text has bytes.
-fn fill_large(kinds: &[u32], places: &[u32], numbers: &[u64], w: &mut [u32], c: Cursor) -> usize
-    requires { ⌜ Columns (now kinds) (now places) (now numbers) ⌝ }
-    requires { ⌜ PlainWords c (now w) ⌝ }
-    ensures { λ r. ⌜ WritesPlain (now (kinds .entry)) (now (places .entry)) (now (numbers .entry)) c (now (w .entry)) r (now (w .exit)) ⌝ }
-{
-    let mut listed = [0u32; MAX_TEXT];
-    fill(kinds, places, numbers, &mut listed, w, c)
-}
-
-// The place of the last token, which is the greatest; 0 without tokens.
-fn last_place(places: &[u32]) -> u32
-    ensures { λ r. ⌜ r ≡ lastPlace (now (places .entry)) ⌝ }
-{
-    let count = places.len();
-    if count == 0 {
-        return 0;
-    }
-    places[count - 1]
-}
-
-// Fills the names' part of the slice, in place of the index, with the names that the table's entries hold; their number. The columns are those of a text's tokens.
-pub fn fill_names(kinds: &[u32], places: &[u32], numbers: &[u64], w: &mut [u32], c: Cursor) -> usize
-    requires { ⌜ Columns (now kinds) (now places) (now numbers) ⌝ }
+    requires { ⌜ PlacesBelow (now places) (length (now listed)) ⌝ }
     requires { ⌜ HeldWords c (now w) ⌝ }
     ensures { λ r. ⌜ Writes (now (kinds .entry)) (now (places .entry)) (now (numbers .entry)) c (now (w .entry)) r (now (w .exit)) ⌝ }
 {
     clear_index(w);
-    if (last_place(places) as usize) < SMALL_TEXT {
-        return fill_small(kinds, places, numbers, w, c);
-    }
-    fill_large(kinds, places, numbers, w, c)
+    fill(kinds, places, numbers, listed, w, c)
 }

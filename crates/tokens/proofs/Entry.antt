@@ -1,11 +1,11 @@
 -- What the entry answers. Assumes nothing.
-use mathlib.Core.Path.{_≡_, sym, ap, _∙_}
-use mathlib.Core.Bool.{true, false, _||_}
+use mathlib.Core.Path.{_≡_, refl, sym, ap, _∙_}
+use mathlib.Core.Bool.{Bool, true, false, _&&_, _||_}
 use mathlib.Core.List.{List}
 use Prim.Native.Nat.{ℕ, _+_, _*_, _≤_, _<_}
 use native.Mathlib.Omega.{arith}
-use borrow.Author.Tests.{lt-ltb, le-ltb}
-use lib.Dec.{ltb}
+use borrow.Author.Tests.{lt-ltb, le-ltb, leb-true, leb-false, le-leb, lt-leb}
+use lib.Dec.{leb, ltb}
 use lib.ListN.{length, replicate, length-replicate, length-map}
 use Rattle.definition.specs.Answer.{Answer, got, refused}
 use Rattle.definition.specs.Text.{Bytes, byteAt}
@@ -13,15 +13,36 @@ use Rattle.definition.specs.Scan.{from, before}
 use Rattle.definition.specs.Token.{Lexed, columns}
 use Rattle.definition.specs.Cut.{Cutting, cut, aboveAscii, checkBytes, tokenize}
 use Rattle.scan.proofs.Branch.{yes!, nay!, lt+, lt-, either-first, either-second, neither}
-use Rattle.scan.proofs.Going.{first-from}
+use Rattle.scan.proofs.Going.{first-from, moves, stops, ends}
+use Rattle.chains.specs.Chain.{HeadCount}
 use Rattle.cutting.proofs.Steps.{via, halt}
-use Rattle.tokens.specs.Columns.{padded, out, shown, short, answered, RoomIf, Zero, Fills, Lexes}
+use Rattle.tokens.specs.Columns.{padded, out, shown, short, answered, RoomIf, Zero, LinksIf, Fills, Lexes}
 use Rattle.tokens.specs.declared.Lexing.{Lexing}
 use Rattle.tokens.specs.declared.Lexing.the-variants.{Done, Refused}
 
 pub above-is : (text : Bytes) (i : ℕ) → aboveAscii (from text i) ≡ ltb 127 (byteAt text i)
 unfolding aboveAscii
 above-is text i = ap (λ (b : ℕ). ltb 127 b) (first-from text i)
+
+-- the bytes before an offset, and whether all of them are below 128
+pub data Seen (text : Bytes) (i : ℕ) (ascii : Bool) : Type 0 where
+  all : ascii ≡ true → 0 + before aboveAscii (from text 0) ≡ i + before aboveAscii (from text i) → Seen text i ascii
+  some : ascii ≡ false → before aboveAscii (from text 0) < i → Seen text i ascii
+
+module _ (text : Bytes) (i : ℕ) where
+  pub seen-more : (a : Bool) → Seen text i a → i < length text → Seen text (i + 1) (a && leb (byteAt text i) 127)
+  seen-more a (Seen.all e h) l = go (leb (byteAt text i) 127) refl
+    where
+      go : (b : Bool) → leb (byteAt text i) 127 ≡ b → Seen text (i + 1) (a && b)
+      go true t = Seen.all (rw e) (moves aboveAscii text 0 i l (above-is text i ∙ le-ltb 127 (byteAt text i) (leb-true (byteAt text i) 127 t)) h)
+      go false t =
+          let s = stops aboveAscii text 0 i l (above-is text i ∙ lt-ltb 127 (byteAt text i) (leb-false (byteAt text i) 127 t)) h in
+          Seen.some (rw e) (omega arith)
+  seen-more a (Seen.some e h) l = Seen.some (rw e) (omega arith)
+
+  pub seen-all : (a : Bool) → Seen text i a → i ≤ length text → length text ≤ i → a ≡ leb (length text) (before aboveAscii (from text 0))
+  seen-all a (Seen.all e h) l m = e ∙ sym (le-leb (length text) (before aboveAscii (from text 0)) (let s = ends aboveAscii text 0 i m h in omega arith))
+  seen-all a (Seen.some e h) l m = e ∙ sym (lt-leb (length text) (before aboveAscii (from text 0)) (omega arith))
 
 -- the definition's answer
 module _ (text : Bytes) where
@@ -73,9 +94,9 @@ room-if text ks ps ns a b c = record { run = λ h. record { fits = h; kinds = om
 zero-long : (l : List ℕ) (n : ℕ) → l ≡ replicate n 0 → length l ≡ n
 zero-long l n e = ap (λ (x : List ℕ). length x) e ∙ length-replicate n 0
 
--- links, all cleared: the heads, and two for each byte of a text
-pub links-clear : (text : Bytes) (ls : List ℕ) (heads n : ℕ) → heads + 2 * length text ≤ n → ls ≡ replicate n 0 → (heads + 2 * length text ≤ length ls) × (ls ≡ replicate (length ls) 0)
-links-clear text ls heads n h e = let l = zero-long ls n e in (omega arith, e ∙ ap (λ (i : ℕ). replicate i 0) (sym l))
+-- links, all zero, for any text
+pub links-if : (text : Bytes) (ls : List ℕ) (heads n : ℕ) → HeadCount heads → heads + 2 * 32768 ≤ n → ls ≡ replicate n 0 → LinksIf text ls heads
+links-if text ls heads n k h e = let l = zero-long ls n e in record { hashes = k; zero = e ∙ ap (λ (i : ℕ). replicate i 0) (sym l); run = λ q. omega arith }
 
 module _ (text : Bytes) (ks ps ns ks′ ps′ ns′ : List ℕ) where
   -- zeros, and a refusal

@@ -2,7 +2,7 @@
 use mathlib.Core.Path.{_≡_}
 use mathlib.Core.Bool.{Bool, true, false, _||_}
 use mathlib.Core.List.{List, [], _++_, map}
-use Prim.Native.Nat.{ℕ, _-_, _≤_}
+use Prim.Native.Nat.{ℕ, _+_, _-_, _*_, _≤_}
 use lib.Dec.{ltb}
 use lib.ListN.{length, replicate}
 use Rattle.definition.specs.Answer.{Answer, got, refused}
@@ -11,6 +11,7 @@ use Rattle.definition.specs.Limit.{maxText}
 use Rattle.definition.specs.Text.{Bytes}
 use Rattle.definition.specs.Token.{Token, Lexed}
 use Rattle.definition.specs.Cut.{Cutting, cut, tokenize}
+use Rattle.chains.specs.Chain.{HeadCount}
 use Rattle.tokens.specs.declared.Lexing.{Lexing}
 use Rattle.tokens.specs.declared.Lexing.the-variants.{Done, Refused}
 
@@ -65,6 +66,12 @@ pub record Zero (ks ps ns ks′ ps′ ns′ : List ℕ) : Type 0 where
   pub kinds : ks′ ≡ replicate (length ks) 0
   pub places : ps′ ≡ replicate (length ps) 0
   pub numbers : ns′ ≡ replicate (length ns) 0
+
+-- links, all zero: the heads, and two for each byte of a text that is not too long
+pub record LinksIf (text : Bytes) (ls : List ℕ) (heads : ℕ) : Type 0 where
+  pub hashes : HeadCount heads
+  pub zero : ls ≡ replicate (length ls) 0
+  pub run : length text ≤ maxText → heads + 2 * length text ≤ length ls
 
 -- what the loop leaves: nothing is said of the columns where it refused
 pub data Fills (text : Bytes) (r : Lexing) (ks ps ns : List ℕ) : Type 0 where

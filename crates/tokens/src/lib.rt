@@ -1,5 +1,4 @@
 // A text cut into tokens, in three columns that the caller lends: kinds, places and numbers.
-use chains::FEW_HEADS;
 use chains::HEADS;
 use chains::LINKS;
 use chains::NAME_LENGTH;
@@ -13,11 +12,12 @@ use cutting::next;
 use scan::byte_at;
 ghost use mathlib.Core.Path.{_≡_};
 ghost use Prim.Native.Nat.{ℕ, _+_, _*_, _≤_, _<_};
+ghost use lib.Dec.{leb};
 ghost use lib.ListN.{length, replicate, set};
 ghost use Rattle.definition.specs.Scan.{before};
 ghost use Rattle.definition.specs.Cut.{aboveAscii, tokenize};
 ghost use Rattle.chains.specs.Chain.{HeadCount};
-ghost use Rattle.tokens.specs.Columns.{out, answered, Room, RoomIf, Zero, Fills, Lexes};
+ghost use Rattle.tokens.specs.Columns.{out, answered, Room, RoomIf, Zero, LinksIf, Fills, Lexes};
 ghost use Rattle.tokens.specs.Names.{Searches, Stores};
 
 pub const MAX_TEXT: usize = 32768;
@@ -30,11 +30,7 @@ pub const NOT_ASCII: u32 = 3;
 
 const LAST_BYTE: u32 = 127;
 
-const SMALL_TEXT: usize = 256;
-
-const FEW_LINKS: usize = FEW_HEADS + LINKS * SMALL_TEXT;
-
-const ALL_LINKS: usize = HEADS + LINKS * MAX_TEXT;
+const MAX_LINKS: usize = HEADS + LINKS * MAX_TEXT;
 
 // How many tokens, or a refusal with its number and offset.
 pub enum Lexing {
@@ -62,6 +58,19 @@ fn ascii_end(text: &[u8]) -> usize
         i += 1;
     }
     i
+}
+
+// Whether no byte is above 127. The loop has no way out: many bytes are looked at in one step.
+fn is_ascii(text: &[u8]) -> bool
+    ensures { λ r. ⌜ r ≡ leb (length (now (text .entry))) (before aboveAscii (now (text .entry))) ⌝ }
+{
+    let mut ascii = true;
+    let mut i = 0;
+    while i < text.len() {
+        ascii = ascii & (byte_at(text, i) <= LAST_BYTE);
+        i += 1;
+    }
+    ascii
 }
 
 // Stores a token.
@@ -161,51 +170,37 @@ fn cut_all(
     Lexing::Done(count)
 }
 
-fn cut_small(text: &[u8], kinds: &mut [u32], places: &mut [u32], numbers: &mut [u64]) -> Lexing
-    requires { ⌜ length (now text) ≤ 256 ⌝ }
-    requires { ⌜ Room (now text) (now kinds) (now places) (now numbers) ⌝ }
-    requires { ⌜ Zero (now kinds) (now places) (now numbers) (now kinds) (now places) (now numbers) ⌝ }
-    ensures { λ r. ⌜ Fills (now (text .entry)) r (now (kinds .exit)) (now (places .exit)) (now (numbers .exit)) ⌝ }
-{
-    let mut links = [0u16; FEW_LINKS];
-    cut_all(text, kinds, places, numbers, &mut links, FEW_HEADS)
-}
-
-fn cut_large(text: &[u8], kinds: &mut [u32], places: &mut [u32], numbers: &mut [u64]) -> Lexing
-    requires { ⌜ Room (now text) (now kinds) (now places) (now numbers) ⌝ }
-    requires { ⌜ Zero (now kinds) (now places) (now numbers) (now kinds) (now places) (now numbers) ⌝ }
-    ensures { λ r. ⌜ Fills (now (text .entry)) r (now (kinds .exit)) (now (places .exit)) (now (numbers .exit)) ⌝ }
-{
-    let mut links = [0u16; ALL_LINKS];
-    cut_all(text, kinds, places, numbers, &mut links, HEADS)
-}
-
-// Fills columns of zeros with the tokens of a text. To clear all links takes longer than to read a small text.
-fn cut(text: &[u8], kinds: &mut [u32], places: &mut [u32], numbers: &mut [u64]) -> Lexing
-    requires { ⌜ Room (now text) (now kinds) (now places) (now numbers) ⌝ }
-    requires { ⌜ Zero (now kinds) (now places) (now numbers) (now kinds) (now places) (now numbers) ⌝ }
-    ensures { λ r. ⌜ Fills (now (text .entry)) r (now (kinds .exit)) (now (places .exit)) (now (numbers .exit)) ⌝ }
-{
-    if text.len() <= SMALL_TEXT {
-        return cut_small(text, kinds, places, numbers);
-    }
-    cut_large(text, kinds, places, numbers)
-}
-
 // The tokens of a text, in columns of zeros with an entry for each byte of it, so that a short text asks for no long ones. A refusal clears nothing.
-pub fn lex(text: &[u8], kinds: &mut [u32], places: &mut [u32], numbers: &mut [u64]) -> Lexing
+pub fn lex(
+    text: &[u8],
+    kinds: &mut [u32],
+    places: &mut [u32],
+    numbers: &mut [u64],
+    links: &mut [u16],
+    heads: usize,
+) -> Lexing
     requires { ⌜ RoomIf (now text) (now kinds) (now places) (now numbers) ⌝ }
     requires { ⌜ Zero (now kinds) (now places) (now numbers) (now kinds) (now places) (now numbers) ⌝ }
+    requires { ⌜ LinksIf (now text) (now links) heads ⌝ }
     ensures { λ r. ⌜ Lexes (tokenize (now (text .entry))) r (now (kinds .exit)) (now (places .exit)) (now (numbers .exit)) ⌝ }
 {
     if MAX_TEXT < text.len() {
         return Lexing::Refused(TEXT_TOO_LONG, 0);
     }
-    let n = ascii_end(text);
-    if n < text.len() {
-        return Lexing::Refused(NOT_ASCII, n);
+    if is_ascii(text) {
+        return cut_all(text, kinds, places, numbers, links, heads);
     }
-    cut(text, kinds, places, numbers)
+    Lexing::Refused(NOT_ASCII, ascii_end(text))
+}
+
+// With links for any text.
+fn lex_any(text: &[u8], kinds: &mut [u32], places: &mut [u32], numbers: &mut [u64]) -> Lexing
+    requires { ⌜ RoomIf (now text) (now kinds) (now places) (now numbers) ⌝ }
+    requires { ⌜ Zero (now kinds) (now places) (now numbers) (now kinds) (now places) (now numbers) ⌝ }
+    ensures { λ r. ⌜ Lexes (tokenize (now (text .entry))) r (now (kinds .exit)) (now (places .exit)) (now (numbers .exit)) ⌝ }
+{
+    let mut links = [0u16; MAX_LINKS];
+    lex(text, kinds, places, numbers, &mut links, HEADS)
 }
 
 // The tokens of a text, in columns of 32,768 entries at least; zeros stand after them, and everywhere on a refusal.
@@ -222,7 +217,7 @@ pub fn tokenize(text: &[u8], kinds: &mut [u32], places: &mut [u32], numbers: &mu
     if numbers.len() < MAX_TEXT {
         return Lexing::Refused(BAD_CALL, 0);
     }
-    let r = lex(text, kinds, places, numbers);
+    let r = lex_any(text, kinds, places, numbers);
     match r {
         Lexing::Done(count) => Lexing::Done(count),
         Lexing::Refused(number, offset) => {

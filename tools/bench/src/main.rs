@@ -4,7 +4,7 @@ use bench::readers::Who;
 use bench::{growth, once, table, texts};
 use std::process::{Command, ExitCode};
 
-const USAGE: &str = "usage: bench [--only NAME] | --growth | --memory [--only NAME] | --once NAME rust|ours|reader | --show NAME
+const USAGE: &str = "usage: bench [--only NAME] | --growth | --plain | --memory [--only NAME] | --once NAME rust|ours|reader | --show NAME
 NAME is a text's name or the beginning of some; for --once and --show it is the whole name";
 
 fn main() -> ExitCode {
@@ -16,6 +16,7 @@ fn run(words: &[&str]) -> Result<(), String> {
         [] => table::print(&texts::chosen("")?),
         ["--only", name] => table::print(&texts::chosen(name)?),
         ["--growth"] => growth::print(),
+        ["--plain"] => growth::print_plain(),
         ["--memory", ref rest @ ..] => memory(rest),
         ["--once", name, who] => once::run(&texts::named(name)?, Who::named(who).ok_or(USAGE)?),
         ["--show", name] => {

@@ -122,6 +122,28 @@ pub const GROWING: [(&str, Maker); 9] = [
     ("collisions", collisions),
 ];
 
+/// Texts in which there is little to read, of any length from 16 bytes.
+pub const PLAIN: [(&str, Maker); 3] =
+    [("comment", comment), ("blanks", blanks), ("externs", externs)];
+
+/// One comment, then one declaration.
+fn comment(bytes: usize) -> String {
+    const WORDS: &str = "licence text, some words of it ";
+    let (before, after) = ("/*", "*/\nint a;");
+    let words: String = WORDS.chars().cycle().take(bytes - before.len() - after.len()).collect();
+    format!("{before}{words}{after}")
+}
+
+/// Blanks, then one declaration.
+fn blanks(bytes: usize) -> String {
+    format!("{:>bytes$}", "int a;")
+}
+
+/// Plain declarations, and line feeds up to the length.
+fn externs(bytes: usize) -> String {
+    filled(bytes, "int a;", |i| format!("\nextern int name_of_a_variable_{i:04};"), "")
+}
+
 /// A comment of 600 bytes before one declaration.
 fn licence() -> String {
     format!("/* {} */\nint a;", "licence text, some words of it ".repeat(19))

@@ -3,29 +3,36 @@ use Rattle.entry.proofs.translation_unit.Statement.{statement}
 use Rattle.entry.proofs.translation_unit.Tie as tie
 use Rattle.entry.proofs.translation_unit.Reads as reads
 use Rattle.entry.proofs.translation_unit.Lts as lts
-use Rattle.entry.proofs.read.Reads as read-reads
+use Rattle.clearing.proofs.clear.Reads as clear-reads
+use Rattle.entry.proofs.translation_unit_in_zeros.Reads as translation-unit-in-zeros-reads
+use Rattle.entry.proofs.Telling.{answered-cleared}
 use Rattle.entry.proofs.Walked.{walkable}
 
--- src/lib.rt:326:5
-read-requires : tie.Need-read-requires
-read-requires c κs = search needs
+clear-requires : tie.Need-clear-requires
+clear-requires c κs = search needs
 
--- src/lib.rt:316:1
+translation-unit-in-zeros-requires : tie.Need-translation-unit-in-zeros-requires
+translation-unit-in-zeros-requires c κs = search needs
+
 same-length : tie.Need-same-length
 same-length c = search needs
 
--- src/lib.rt:316:1
 same-length-2 : tie.Need-same-length-2
 same-length-2 c = search needs
 
--- src/lib.rt:316:1
 same-length-3 : tie.Need-same-length-3
 same-length-3 c = search needs
 
--- src/lib.rt:316:1
 returns : tie.Need-returns
-returns c = (c .before .before .before .before .before .read .ensures, walkable _ _ _ _)
+returns c = (answered-cleared _ _ _ _ _ (c .before .before .before .before .before .before .before .before .before .before .before .before .before .before .clear .ensures) (c .before .before .before .before .before .translation-unit-in-zeros .ensures .0), walkable _ _ _ _)
 
 pub translation-unit-spec : {M : Type 1} → statement M
 translation-unit-spec =
-    tie.close (tie.spec read-requires same-length same-length-2 same-length-3 returns)
+    tie.close
+    (tie.spec
+    clear-requires
+    translation-unit-in-zeros-requires
+    same-length
+    same-length-2
+    same-length-3
+    returns)

@@ -4,7 +4,7 @@ use Rattle.tokens.proofs.tokenize.Tie as tie
 use Rattle.tokens.proofs.tokenize.Reads as reads
 use Rattle.tokens.proofs.tokenize.Lts as lts
 use Rattle.tokens.proofs.clear.Reads as clear-reads
-use Rattle.tokens.proofs.lex.Reads as lex-reads
+use Rattle.tokens.proofs.lex_any.Reads as lex-any-reads
 use mathlib.Core.Path.{_∙_}
 use Rattle.tokens.proofs.Entry.{bad-call, all-refused, all-done, zero-lengths, zero-self, zero-again, long-enough, room-if, too-short-kinds, too-short-places, too-short-numbers}
 
@@ -47,8 +47,8 @@ same-length-9 c = search needs
 returns-3 : tie.Need-returns-3
 returns-3 c = bad-call (c .before .before .before .before .before .before .before .before .before .before .before .before .before .before .before .before .before .args .text .now) _ _ _ _ _ _ (too-short-numbers _ _ _ _ _ _ (c .before .before .before .before .before .before .before .before .before .clear .ensures) (c .if3 .taken)) (c .before .before .before .before .before .before .before .before .before .clear .ensures)
 
-lex-requires : tie.Need-lex-requires
-lex-requires c κs = (room-if _ _ _ _ (c .before .before .before .before .before .if1 .left) (c .before .before .before .before .if2 .left) (c .before .before .before .if3 .left), zero-self _ _ _ _ _ _ (c .before .before .before .before .before .before .before .before .before .before .before .before .clear .ensures))
+lex-any-requires : tie.Need-lex-any-requires
+lex-any-requires c κs = (room-if _ _ _ _ (c .before .before .before .before .before .if1 .left) (c .before .before .before .before .if2 .left) (c .before .before .before .if3 .left), zero-self _ _ _ _ _ _ (c .before .before .before .before .before .before .before .before .before .before .before .before .clear .ensures))
 
 enum-known-r : tie.Need-enum-known-r
 enum-known-r c = search needs
@@ -69,7 +69,7 @@ same-length-12 : tie.Need-same-length-12
 same-length-12 c = search needs
 
 returns-4 : tie.Need-returns-4
-returns-4 c = let l = zero-lengths _ _ _ _ _ _ (c .before .before .before .before .before .before .before .before .before .before .before .before .before .before .before .before .before .before .before .before .before .before .clear .ensures) in all-done (c .before .before .before .before .before .before .before .before .before .before .before .before .before .before .before .before .before .before .before .before .before .before .before .before .before .before .before .before .before .before .args .text .now) (c .before .before .before .before .before .before .before .before .before .before .before .before .before .before .before .before .before .before .before .before .before .before .before .before .before .before .before .before .before .before .args .kinds .now) (c .before .before .before .before .before .before .before .before .before .before .before .before .before .before .before .before .before .before .before .before .before .before .before .before .before .before .before .before .before .before .args .places .now) (c .before .before .before .before .before .before .before .before .before .before .before .before .before .before .before .before .before .before .before .before .before .before .before .before .before .before .before .before .before .before .args .numbers .now) _ _ _ (long-enough _ _ _ _ _ _ (c .before .before .before .before .before .before .before .before .before .before .before .before .before .before .before .before .before .before .before .before .before .before .clear .ensures) (c .before .before .before .before .before .before .before .before .before .before .before .before .before .before .before .if1 .left) (c .before .before .before .before .before .before .before .before .before .before .before .before .before .before .if2 .left) (c .before .before .before .before .before .before .before .before .before .before .before .before .before .if3 .left)) _ (c .before .before .before .before .before .before .before .before .before .lex .kept .1 .0 ∙ l .0) (c .before .before .before .before .before .before .before .before .before .lex .kept .1 .1 .0 ∙ l .1) (c .before .before .before .before .before .before .before .before .before .lex .kept .1 .1 .1 .0 ∙ l .2) (c .before .before .before .before .before .before .before .before .before .lex .ensures) _ (c .before .r .given .1)
+returns-4 c = let l = zero-lengths _ _ _ _ _ _ (c .before .before .before .before .before .before .before .before .before .before .before .before .before .before .before .before .before .before .before .before .before .before .clear .ensures) in all-done (c .before .before .before .before .before .before .before .before .before .before .before .before .before .before .before .before .before .before .before .before .before .before .before .before .before .before .before .before .before .before .args .text .now) (c .before .before .before .before .before .before .before .before .before .before .before .before .before .before .before .before .before .before .before .before .before .before .before .before .before .before .before .before .before .before .args .kinds .now) (c .before .before .before .before .before .before .before .before .before .before .before .before .before .before .before .before .before .before .before .before .before .before .before .before .before .before .before .before .before .before .args .places .now) (c .before .before .before .before .before .before .before .before .before .before .before .before .before .before .before .before .before .before .before .before .before .before .before .before .before .before .before .before .before .before .args .numbers .now) _ _ _ (long-enough _ _ _ _ _ _ (c .before .before .before .before .before .before .before .before .before .before .before .before .before .before .before .before .before .before .before .before .before .before .clear .ensures) (c .before .before .before .before .before .before .before .before .before .before .before .before .before .before .before .if1 .left) (c .before .before .before .before .before .before .before .before .before .before .before .before .before .before .if2 .left) (c .before .before .before .before .before .before .before .before .before .before .before .before .before .if3 .left)) _ (c .before .before .before .before .before .before .before .before .before .lex-any .kept .1 .0 ∙ l .0) (c .before .before .before .before .before .before .before .before .before .lex-any .kept .1 .1 .0 ∙ l .1) (c .before .before .before .before .before .before .before .before .before .lex-any .kept .1 .1 .1 .0 ∙ l .2) (c .before .before .before .before .before .before .before .before .before .lex-any .ensures) _ (c .before .r .given .1)
 
 same-length-13 : tie.Need-same-length-13
 same-length-13 c = search needs
@@ -81,7 +81,7 @@ same-length-15 : tie.Need-same-length-15
 same-length-15 c = search needs
 
 returns-5 : tie.Need-returns-5
-returns-5 c = let l = zero-lengths _ _ _ _ _ _ (c .before .before .before .before .before .before .before .before .before .before .before .before .before .before .before .before .before .before .before .before .before .before .before .before .before .before .before .before .before .before .before .before .clear .ensures) in all-refused (c .before .before .before .before .before .before .before .before .before .before .before .before .before .before .before .before .before .before .before .before .before .before .before .before .before .before .before .before .before .before .before .before .before .before .before .before .before .before .before .before .args .text .now) _ _ _ _ _ _ (long-enough _ _ _ _ _ _ (c .before .before .before .before .before .before .before .before .before .before .before .before .before .before .before .before .before .before .before .before .before .before .before .before .before .before .before .before .before .before .before .before .clear .ensures) (c .before .before .before .before .before .before .before .before .before .before .before .before .before .before .before .before .before .before .before .before .before .before .before .before .before .if1 .left) (c .before .before .before .before .before .before .before .before .before .before .before .before .before .before .before .before .before .before .before .before .before .before .before .before .if2 .left) (c .before .before .before .before .before .before .before .before .before .before .before .before .before .before .before .before .before .before .before .before .before .before .before .if3 .left)) _ _ _ _ (c .before .before .before .before .before .before .before .before .before .before .before .before .before .before .before .before .before .before .before .lex .ensures) _ _ (c .before .before .before .before .before .before .before .before .before .before .before .r2 .given .1) (zero-again _ _ _ _ _ _ (c .before .before .before .before .before .before .before .before .before .before .before .before .before .before .before .before .before .before .before .before .before .before .before .before .before .before .before .before .before .before .before .before .clear .ensures) _ _ _ _ _ _ (c .before .before .before .before .before .before .before .before .before .before .before .before .before .before .before .before .before .before .before .lex .kept .1 .0 ∙ l .0) (c .before .before .before .before .before .before .before .before .before .before .before .before .before .before .before .before .before .before .before .lex .kept .1 .1 .0 ∙ l .1) (c .before .before .before .before .before .before .before .before .before .before .before .before .before .before .before .before .before .before .before .lex .kept .1 .1 .1 .0 ∙ l .2) (c .before .before .before .before .before .before .clear2 .ensures))
+returns-5 c = let l = zero-lengths _ _ _ _ _ _ (c .before .before .before .before .before .before .before .before .before .before .before .before .before .before .before .before .before .before .before .before .before .before .before .before .before .before .before .before .before .before .before .before .clear .ensures) in all-refused (c .before .before .before .before .before .before .before .before .before .before .before .before .before .before .before .before .before .before .before .before .before .before .before .before .before .before .before .before .before .before .before .before .before .before .before .before .before .before .before .before .args .text .now) _ _ _ _ _ _ (long-enough _ _ _ _ _ _ (c .before .before .before .before .before .before .before .before .before .before .before .before .before .before .before .before .before .before .before .before .before .before .before .before .before .before .before .before .before .before .before .before .clear .ensures) (c .before .before .before .before .before .before .before .before .before .before .before .before .before .before .before .before .before .before .before .before .before .before .before .before .before .if1 .left) (c .before .before .before .before .before .before .before .before .before .before .before .before .before .before .before .before .before .before .before .before .before .before .before .before .if2 .left) (c .before .before .before .before .before .before .before .before .before .before .before .before .before .before .before .before .before .before .before .before .before .before .before .if3 .left)) _ _ _ _ (c .before .before .before .before .before .before .before .before .before .before .before .before .before .before .before .before .before .before .before .lex-any .ensures) _ _ (c .before .before .before .before .before .before .before .before .before .before .before .r2 .given .1) (zero-again _ _ _ _ _ _ (c .before .before .before .before .before .before .before .before .before .before .before .before .before .before .before .before .before .before .before .before .before .before .before .before .before .before .before .before .before .before .before .before .clear .ensures) _ _ _ _ _ _ (c .before .before .before .before .before .before .before .before .before .before .before .before .before .before .before .before .before .before .before .lex-any .kept .1 .0 ∙ l .0) (c .before .before .before .before .before .before .before .before .before .before .before .before .before .before .before .before .before .before .before .lex-any .kept .1 .1 .0 ∙ l .1) (c .before .before .before .before .before .before .before .before .before .before .before .before .before .before .before .before .before .before .before .lex-any .kept .1 .1 .1 .0 ∙ l .2) (c .before .before .before .before .before .before .clear2 .ensures))
 
 pub tokenize-spec : {M : Type 1} → statement M
 tokenize-spec =
@@ -100,7 +100,7 @@ tokenize-spec =
     same-length-8
     same-length-9
     returns-3
-    lex-requires
+    lex-any-requires
     enum-known-r
     enum-known-r-2
     clear-requires-2
