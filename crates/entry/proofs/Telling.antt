@@ -93,22 +93,21 @@ module _ {n asked : ℕ} (h : Asked n asked) where
   within size q = record { run = λ l. let m = h .does .run l in omega arith }
 
 -- scratch of zeros as long as a text may be
-module _ (n heads : ℕ) (text : Bytes) (room : length text ≤ 32768 → length text ≤ n) (k : HeadCount heads) {ks ps ns ls listed : List ℕ}
-    (a : ks ≡ replicate n 0) (b : ps ≡ replicate n 0) (c : ns ≡ replicate n 0) (d : ls ≡ replicate (heads + 2 * n) 0) (e : listed ≡ replicate n 0) where
+module _ (n heads : ℕ) (text : Bytes) (room : length text ≤ 32768 → length text ≤ n) (k : HeadCount heads) {ks ps ns ls : List ℕ} (a : ks ≡ replicate n 0) (b : ps ≡ replicate n 0) (c : ns ≡ replicate n 0)
+    (d : ls ≡ replicate (heads + 2 * n) 0) where
   long-as : (m : ℕ) (l : List ℕ) → l ≡ replicate m 0 → length l ≡ m
   long-as m l q = ap (λ (x : List ℕ). length x) q ∙ length-replicate m 0
 
   zero-as : (m : ℕ) (l : List ℕ) → l ≡ replicate m 0 → l ≡ replicate (length l) 0
   zero-as m l q = q ∙ ap (λ (i : ℕ). replicate i 0) (sym (long-as m l q))
 
-  pub cleared-scratch : Scratch text ks ps ns ls heads listed
+  pub cleared-scratch : Scratch text ks ps ns ls heads
   cleared-scratch =
-      let x = long-as n ks a in let y = long-as n ps b in let z = long-as n ns c in let u = long-as (heads + 2 * n) ls d in let v = long-as n listed e in
+      let x = long-as n ks a in let y = long-as n ps b in let z = long-as n ns c in let u = long-as (heads + 2 * n) ls d in
       record {
         columns = record { run = λ h. let r = room h in record { fits = h; kinds = omega arith; places = omega arith; numbers = omega arith } };
         zero = record { kinds = zero-as n ks a; places = zero-as n ps b; numbers = zero-as n ns c };
         links = record { hashes = k; zero = zero-as (heads + 2 * n) ls d; run = λ h. let r = room h in omega arith };
-        list = λ h. let r = room h in omega arith;
       }
 
 module _ {text : Bytes} {ks ps ns : List ℕ} {count : ℕ} (h : Lexes text ks ps ns count) where
@@ -119,12 +118,12 @@ module _ {text : Bytes} {ks ps ns : List ℕ} {count : ℕ} (h : Lexes text ks p
       let c : take count ns ≡ x .tokens .numbers = ap (λ (y : Lexed). y .tokens .numbers) e in
       rw (a, b, c) (tokenize-columns text .of x (h .says))
 
-  -- places in a list that has an entry for each byte
-  pub text-places : (listed : List ℕ) → (length text ≤ 32768 → length text ≤ length listed) → PlacesBelow (take count ps) (length listed)
-  text-places listed f = let x = h .tokens in
+  -- places in the list, which stands where the links were
+  pub text-places : (ls ls′ : List ℕ) (heads : ℕ) → columns.LinksIf text ls heads → length ls′ ≡ length ls → PlacesBelow (take count ps) (length ls′)
+  text-places ls ls′ heads f e = let x = h .tokens in
       let p = tokenize-placed text .of x (h .says) in
       let b : take count ps ≡ x .places = ap (λ (y : Lexed). y .places) (h .same) in
-      record { at = rw b (λ i l. let q = p .below i l in let m = f (p .short) in omega arith) }
+      record { at = rw b (λ i l. let q = p .below i l in let m = f .run (p .short) in omega arith) }
 
   pub text-done : (entry : meant.Entry) (m : Model) {r : Reading} {w d w′ d′ : List ℕ} {v v′ : List ℤ}
       → Read (readTokens entry (lexed (take count ks) (take count ps) (take count ns) (length text)) m) w d v r w′ d′ v′ → Read (meant.readWith m entry text) w d v r w′ d′ v′

@@ -87,12 +87,11 @@ Reads entry x m = Read (readTokens entry x m)
 
 -- ---- scratch
 
--- for a text that is not too long, cleared: columns for its tokens, links of its names, and a list of them, with an entry for each byte
-pub record Scratch (text : Bytes) (ks ps ns ls : List ℕ) (heads : ℕ) (listed : List ℕ) : Type 0 where
+-- for a text that is not too long, cleared: columns for its tokens, and links of its names
+pub record Scratch (text : Bytes) (ks ps ns ls : List ℕ) (heads : ℕ) : Type 0 where
   pub columns : RoomIf text ks ps ns
   pub zero : Zero ks ps ns ks ps ns
   pub links : LinksIf text ls heads
-  pub list : length text ≤ maxText → length text ≤ length listed
 
 -- the lengths that there are, but for the longest
 abbrev pub tinyText : ℕ

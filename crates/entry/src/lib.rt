@@ -199,13 +199,13 @@ fn counted(c: Cursor, names: usize) -> Counts
 
 // ---- texts
 
-// The tokens of a text read into a new table, with its names. Where they are refused, what was read is taken out again.
+// The tokens of a text read into a new table, with its names. Where they are refused, what was read is taken out again. The list of names is scratch.
 fn read_tokens(
     entry: Entry,
     kinds: &[u32],
     places: &[u32],
     numbers: &[u64],
-    listed: &mut [u32],
+    listed: &mut [u16],
     end: usize,
     m: Model,
     w: &mut [u32],
@@ -230,7 +230,7 @@ fn read_tokens(
     }
 }
 
-// A text cut in cleared columns, and read into a new table.
+// A text cut in cleared columns, and read into a new table. The links are no more needed then, and their place serves for the list of names.
 fn read_columns(
     entry: Entry,
     text: &[u8],
@@ -239,13 +239,12 @@ fn read_columns(
     numbers: &mut [u64],
     links: &mut [u16],
     heads: usize,
-    listed: &mut [u32],
     m: Model,
     w: &mut [u32],
     d: &mut [u64],
     v: &mut [i64],
 ) -> Reading
-    requires { ⌜ Scratch (now text) (now kinds) (now places) (now numbers) (now links) heads (now listed) ⌝ }
+    requires { ⌜ Scratch (now text) (now kinds) (now places) (now numbers) (now links) heads ⌝ }
     requires { ⌜ Encodes newTable firstCursor (now w) (now d) (now v) ⌝ }
     ensures { λ r. ⌜ Read (readWith (model m) (entryOf entry) (now (text .entry))) (now (w .entry)) (now (d .entry)) (now (v .entry)) r (now (w .exit)) (now (d .exit)) (now (v .exit)) ⌝ }
 {
@@ -256,7 +255,7 @@ fn read_columns(
             &kinds[..count],
             &places[..count],
             &numbers[..count],
-            listed,
+            links,
             text.len(),
             m,
             w,
@@ -276,13 +275,12 @@ fn read_front(
     numbers: &mut [u64],
     links: &mut [u16],
     heads: usize,
-    listed: &mut [u32],
     m: Model,
     w: &mut [u32],
     d: &mut [u64],
     v: &mut [i64],
 ) -> Reading
-    requires { ⌜ Scratch (now text) (now kinds) (now places) (now numbers) (now links) heads (now listed) ⌝ }
+    requires { ⌜ Scratch (now text) (now kinds) (now places) (now numbers) (now links) heads ⌝ }
     requires { ⌜ Cleared (now w) (now d) (now v) ⌝ }
     requires { ⌜ Enough (now w) (now d) (now v) ⌝ }
     ensures { λ r. ⌜ Leaves (readWith (model m) (entryOf entry) (now (text .entry))) (now (w .entry)) (now (d .entry)) (now (v .entry)) r (now (w .exit)) (now (d .exit)) (now (v .exit)) ⌝ }
@@ -295,7 +293,6 @@ fn read_front(
         numbers,
         links,
         heads,
-        listed,
         m,
         &mut w[..WORDS],
         &mut d[..WIDES],
@@ -338,13 +335,12 @@ fn read(
     numbers: &mut [u64],
     links: &mut [u16],
     heads: usize,
-    listed: &mut [u32],
     number: u32,
     w: &mut [u32],
     d: &mut [u64],
     v: &mut [i64],
 ) -> Outcome
-    requires { ⌜ Scratch (now text) (now kinds) (now places) (now numbers) (now links) heads (now listed) ⌝ }
+    requires { ⌜ Scratch (now text) (now kinds) (now places) (now numbers) (now links) heads ⌝ }
     requires { ⌜ Cleared (now w) (now d) (now v) ⌝ }
     ensures { λ r. ⌜ Answers number (entryOf entry) (now (text .entry)) (now (w .entry)) (now (d .entry)) (now (v .entry)) r (now (w .exit)) (now (d .exit)) (now (v .exit)) ⌝ }
 {
@@ -360,7 +356,6 @@ fn read(
                     numbers,
                     links,
                     heads,
-                    listed,
                     m,
                     w,
                     d,
@@ -391,7 +386,6 @@ fn read_tiny(
     let mut places = [0u32; TINY_TEXT];
     let mut numbers = [0u64; TINY_TEXT];
     let mut links = [0u16; TINY_LINKS];
-    let mut listed = [0u32; TINY_TEXT];
     read(
         entry,
         text,
@@ -400,7 +394,6 @@ fn read_tiny(
         &mut numbers,
         &mut links,
         FEW_HEADS,
-        &mut listed,
         number,
         w,
         d,
@@ -424,7 +417,6 @@ fn read_small(
     let mut places = [0u32; SMALL_TEXT];
     let mut numbers = [0u64; SMALL_TEXT];
     let mut links = [0u16; SMALL_LINKS];
-    let mut listed = [0u32; SMALL_TEXT];
     read(
         entry,
         text,
@@ -433,7 +425,6 @@ fn read_small(
         &mut numbers,
         &mut links,
         FEW_HEADS,
-        &mut listed,
         number,
         w,
         d,
@@ -457,7 +448,6 @@ fn read_middle(
     let mut places = [0u32; MIDDLE_TEXT];
     let mut numbers = [0u64; MIDDLE_TEXT];
     let mut links = [0u16; MIDDLE_LINKS];
-    let mut listed = [0u32; MIDDLE_TEXT];
     read(
         entry,
         text,
@@ -466,7 +456,6 @@ fn read_middle(
         &mut numbers,
         &mut links,
         FEW_HEADS,
-        &mut listed,
         number,
         w,
         d,
@@ -490,7 +479,6 @@ fn read_large(
     let mut places = [0u32; LARGE_TEXT];
     let mut numbers = [0u64; LARGE_TEXT];
     let mut links = [0u16; LARGE_LINKS];
-    let mut listed = [0u32; LARGE_TEXT];
     read(
         entry,
         text,
@@ -499,7 +487,6 @@ fn read_large(
         &mut numbers,
         &mut links,
         HEADS,
-        &mut listed,
         number,
         w,
         d,
@@ -523,7 +510,6 @@ fn read_longest(
     let mut places = [0u32; MAX_TEXT];
     let mut numbers = [0u64; MAX_TEXT];
     let mut links = [0u16; MAX_LINKS];
-    let mut listed = [0u32; MAX_TEXT];
     read(
         entry,
         text,
@@ -532,7 +518,6 @@ fn read_longest(
         &mut numbers,
         &mut links,
         HEADS,
-        &mut listed,
         number,
         w,
         d,

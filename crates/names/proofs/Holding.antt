@@ -65,9 +65,9 @@ module _ (t : Table) where
     declaration-word rest i j b p q e = ap (λ (l : List ℕ). getD l b 0) (split-words rest)
         ∙ region-get declarationWords 3 (λ y. refl) 0 43008 (3 * maxDeclarations) beforeDeclarations rest declarations-at noDeclaration (t .declarations) i j b e q (omega arith) (omega (arith, f .declarations)) refl
 
-pub all-struck : (t : Table) (c : Cursor) (w : List ℕ) {m m₁ m₂ m₃ m₄ m₅ : List ℕ} → Counts t c → InWords t w
-    → Struck (column w 3 6 (c .rows)) m m₁ → Struck (column w 6146 4 (c .members)) m₁ m₂ → Struck (column w 22529 2 (c .values)) m₂ m₃
-    → Struck (column w 30722 3 (c .parameters)) m₃ m₄ → Struck (column w 43010 3 (c .declarations)) m₄ m₅ → Struck (heldNames t) m m₅
+pub all-struck : (t : Table) (c : Cursor) (w : List ℕ) {ns m m₁ m₂ m₃ m₄ m₅ : List ℕ} → Counts t c → InWords t w
+    → Struck ns (column w 3 6 (c .rows)) m m₁ → Struck ns (column w 6146 4 (c .members)) m₁ m₂ → Struck ns (column w 22529 2 (c .values)) m₂ m₃
+    → Struck ns (column w 30722 3 (c .parameters)) m₃ m₄ → Struck ns (column w 43010 3 (c .declarations)) m₄ m₅ → Struck ns (heldNames t) m m₅
 unfolding heldNames
 all-struck t c w k h a b e f g =
     let r : column w 3 6 (c .rows) ≡ map rowName (t .rows)

@@ -24,24 +24,24 @@ column w start width (suc i) = column w start width i ++ getD w (start + width *
 pub record PlacesBelow (ps : List ℕ) (n : ℕ) : Type 0 where
   pub at : (i : ℕ) → i < length ps → getD ps i 0 < n
 
--- every name at its first place is listed there
+-- every name at its first place is listed there, by the index of its token and 1
 pub record Listed (ks ps ns m : List ℕ) : Type 0 where
-  pub at : (i : ℕ) → i < length ks → isFirst (getD ks i 0) (getD ps i 0) (getD ns i 0) ≡ true → getD m (getD ps i 0) 0 ≡ getD ns i 0
+  pub at : (i : ℕ) → i < length ks → isFirst (getD ks i 0) (getD ps i 0) (getD ns i 0) ≡ true → getD m (getD ps i 0) 0 ≡ i + 1
 
 -- where a name is listed
 abbrev pub slot : ℕ → ℕ
 slot n = offsetOf n
 
--- what stands there: the name, or 0 where it was struck out
+-- what stands there, or 0 where it was struck out
 abbrev pub left : Bool → ℕ → ℕ
 left b n = elim b [ true ↦ 0 | false ↦ n ]
 
--- the names hs were struck out, and no others
-pub record Struck (hs m m′ : List ℕ) : Type 0 where
-  pub at : (n : ℕ) → 0 < n → (b : Bool) → getD m (slot n) 0 ≡ left b n → getD m′ (slot n) 0 ≡ left (b || isHeld n hs) n
+-- of a text with the numbers ns, the names hs were struck out, and no others
+pub record Struck (ns hs m m′ : List ℕ) : Type 0 where
+  pub at : (j : ℕ) → j < length ns → (b : Bool) → getD m (slot (getD ns j 0)) 0 ≡ left b (j + 1) → getD m′ (slot (getD ns j 0)) 0 ≡ left (b || isHeld (getD ns j 0) hs) (j + 1)
 
-pub record Strikes (w : List ℕ) (c : Cursor) (m m′ : List ℕ) : Type 0 where
-  pub run : (t : Table) → Counts t c → InWords t w → Struck (heldNames t) m m′
+pub record Strikes (w : List ℕ) (c : Cursor) (ns m m′ : List ℕ) : Type 0 where
+  pub run : (t : Table) → Counts t c → InWords t w → Struck ns (heldNames t) m m′
 
 -- a name at its first place was struck out where it is held
 pub record Found (ks ps ns m held : List ℕ) : Type 0 where

@@ -1,4 +1,4 @@
-// The names of a table, written into the lent slice when the text is read. Each name of the text is listed at its first place; those that an entry holds
+// The names of a table, written into the lent slice when the text is read. Each name of the text is listed at its first place, by the index of its token and 1; those that an entry holds
 // are struck out; the ones struck out are written, in the order of the tokens.
 use erasing::clear_index;
 use table::Cursor;
@@ -50,7 +50,7 @@ fn is_first(kind: u32, place: u32, number: u64) -> bool
 }
 
 // Lists each name of the text at its first place.
-fn list(kinds: &[u32], places: &[u32], numbers: &[u64], listed: &mut [u32])
+fn list(kinds: &[u32], places: &[u32], numbers: &[u64], listed: &mut [u16])
     requires { ⌜ Columns (now kinds) (now places) (now numbers) ⌝ }
     requires { ⌜ PlacesBelow (now places) (length (now listed)) ⌝ }
     ensures { λ r. ⌜ Listed (now (kinds .entry)) (now (places .entry)) (now (numbers .entry)) (now (listed .exit)) ⌝ }
@@ -60,7 +60,7 @@ fn list(kinds: &[u32], places: &[u32], numbers: &[u64], listed: &mut [u32])
         let number = numbers[i];
         let place = places[i];
         if is_first(kinds[i], place, number) {
-            listed[place as usize] = number as u32;
+            listed[place as usize] = (i + 1) as u16;
             i += 1;
             continue;
         }
@@ -68,49 +68,71 @@ fn list(kinds: &[u32], places: &[u32], numbers: &[u64], listed: &mut [u32])
     }
 }
 
-// Strikes out a name where it is listed: at its offset, if at all. A test is cheaper than a remainder by the list's length.
-fn strike_name(name: u32, listed: &mut [u32])
-    ensures { λ r. ⌜ Struck (name ∷ []) (now (listed .entry)) (now (listed .exit)) ⌝ }
+// Strikes out a name where it is listed: at its offset, if at all. What stands in the list elsewhere may be any number.
+fn strike_name(name: u32, numbers: &[u64], listed: &mut [u16])
+    ensures { λ r. ⌜ Struck (now (numbers .entry)) (name ∷ []) (now (listed .entry)) (now (listed .exit)) ⌝ }
 {
     let slot = (name as u64 % NAME_LENGTH) as usize;
     if slot >= listed.len() {
         return;
     }
-    if listed[slot] == name {
+    let token = listed[slot] as usize;
+    if token == 0 {
+        return;
+    }
+    if numbers.len() < token {
+        return;
+    }
+    if numbers[token - 1] == name as u64 {
         listed[slot] = 0;
         return;
     }
 }
 
 // Strikes out the names of a region's entries.
-fn strike(w: &[u32], start: usize, width: usize, count: usize, listed: &mut [u32])
+fn strike(w: &[u32], start: usize, width: usize, count: usize, numbers: &[u64], listed: &mut [u16])
     requires { ⌜ 0 < width ⌝ }
     requires { ⌜ start + width * count ≤ length (now w) ⌝ }
-    ensures { λ r. ⌜ Struck (column (now (w .entry)) start width count) (now (listed .entry)) (now (listed .exit)) ⌝ }
+    ensures { λ r. ⌜ Struck (now (numbers .entry)) (column (now (w .entry)) start width count) (now (listed .entry)) (now (listed .exit)) ⌝ }
 {
     let mut at = start;
     let mut i = 0;
     while i < count {
-        strike_name(w[at], listed);
+        strike_name(w[at], numbers, listed);
         at += width;
         i += 1;
     }
 }
 
 // Strikes out every name that an entry holds.
-fn strike_all(w: &[u32], c: Cursor, listed: &mut [u32])
+fn strike_all(w: &[u32], c: Cursor, numbers: &[u64], listed: &mut [u16])
     requires { ⌜ length (now w) ≡ wordsLength ⌝ }
     requires { ⌜ Room c ⌝ }
-    ensures { λ r. ⌜ Strikes (now (w .entry)) c (now (listed .entry)) (now (listed .exit)) ⌝ }
+    ensures { λ r. ⌜ Strikes (now (w .entry)) c (now (numbers .entry)) (now (listed .entry)) (now (listed .exit)) ⌝ }
 {
-    strike(w, ROW_NAME, ROW_WORDS, c.rows, listed);
-    strike(w, MEMBERS_AT + MEMBER_NAME, MEMBER_WORDS, c.members, listed);
-    strike(w, VALUES_AT + VALUE_NAME, VALUE_WORDS, c.values, listed);
+    strike(w, ROW_NAME, ROW_WORDS, c.rows, numbers, listed);
+    strike(
+        w,
+        MEMBERS_AT + MEMBER_NAME,
+        MEMBER_WORDS,
+        c.members,
+        numbers,
+        listed,
+    );
+    strike(
+        w,
+        VALUES_AT + VALUE_NAME,
+        VALUE_WORDS,
+        c.values,
+        numbers,
+        listed,
+    );
     strike(
         w,
         PARAMETERS_AT + PARAMETER_NAME,
         PARAMETER_WORDS,
         c.parameters,
+        numbers,
         listed,
     );
     strike(
@@ -118,12 +140,13 @@ fn strike_all(w: &[u32], c: Cursor, listed: &mut [u32])
         DECLARATIONS_AT + DECLARATION_NAME,
         DECLARATION_WORDS,
         c.declarations,
+        numbers,
         listed,
     );
 }
 
 // A token is a name at its first place, and was struck out.
-fn is_found(kind: u32, place: u32, number: u64, listed: &[u32]) -> bool
+fn is_found(kind: u32, place: u32, number: u64, listed: &[u16]) -> bool
     requires { ⌜ place < length (now listed) ⌝ }
     ensures { λ r. ⌜ r ≡ (isFirst kind place number && eqb (getD (now (listed .entry)) place 0) 0) ⌝ }
 {
@@ -131,7 +154,7 @@ fn is_found(kind: u32, place: u32, number: u64, listed: &[u32]) -> bool
 }
 
 // Writes the names that were struck out; their number.
-fn write(kinds: &[u32], places: &[u32], numbers: &[u64], listed: &[u32], w: &mut [u32]) -> usize
+fn write(kinds: &[u32], places: &[u32], numbers: &[u64], listed: &[u16], w: &mut [u32]) -> usize
     requires { ⌜ Ready (now kinds) (now places) (now numbers) (now listed) (now w) ⌝ }
     ensures { λ r. ⌜ Fills (now (kinds .entry)) (now (places .entry)) (now (numbers .entry)) (now (listed .entry)) (now (w .entry)) r (now (w .exit)) ⌝ }
 {
@@ -158,7 +181,7 @@ fn fill(
     kinds: &[u32],
     places: &[u32],
     numbers: &[u64],
-    listed: &mut [u32],
+    listed: &mut [u16],
     w: &mut [u32],
     c: Cursor,
 ) -> usize
@@ -168,7 +191,7 @@ fn fill(
     ensures { λ r. ⌜ WritesPlain (now (kinds .entry)) (now (places .entry)) (now (numbers .entry)) c (now (w .entry)) r (now (w .exit)) ⌝ }
 {
     list(kinds, places, numbers, listed);
-    strike_all(w, c, listed);
+    strike_all(w, c, numbers, listed);
     write(kinds, places, numbers, listed, w)
 }
 
@@ -178,7 +201,7 @@ pub fn fill_names(
     kinds: &[u32],
     places: &[u32],
     numbers: &[u64],
-    listed: &mut [u32],
+    listed: &mut [u16],
     w: &mut [u32],
     c: Cursor,
 ) -> usize

@@ -85,6 +85,7 @@ fn refused() -> Vec<Text> {
         text("structs-bad-token", ended("int @;", structs)),
         text("structs-bad-word", ended("foo a;", structs)),
         text("deep", deep()),
+        text("deep-long", format!("{:\n>LONGEST$}", deep())),
     ]
 }
 

@@ -22,7 +22,7 @@ long-enough-requires : tie.Need-long-enough-requires
 long-enough-requires c κs = search needs
 
 read-front-requires : tie.Need-read-front-requires
-read-front-requires c κs = (c .before .before .before .before .before .before .before .before .before .before .before .before .before .before .before .before .before .before .before .before .before .before .pre .0, (c .before .before .before .before .before .before .before .before .before .before .before .before .before .before .before .before .before .before .before .before .before .before .pre .1, enough _ _ _ (sym (c .before .before .before .before .before .before .before .before .before .long-enough .ensures) ∙ c .before .before .before .before .before .before .before .before .if1 .taken)))
+read-front-requires c κs = (c .before .before .before .before .before .before .before .before .before .before .before .before .before .before .before .before .before .before .before .before .pre .0, (c .before .before .before .before .before .before .before .before .before .before .before .before .before .before .before .before .before .before .before .before .pre .1, enough _ _ _ (sym (c .before .before .before .before .before .before .before .before .long-enough .ensures) ∙ c .before .before .before .before .before .before .before .if1 .taken)))
 
 conclude-requires : tie.Need-conclude-requires
 conclude-requires c κs = search needs
@@ -48,11 +48,8 @@ same-length-6 c = search needs
 same-length-7 : tie.Need-same-length-7
 same-length-7 c = search needs
 
-same-length-8 : tie.Need-same-length-8
-same-length-8 c = search needs
-
 returns : tie.Need-returns
-returns c = answer-known _ _ _ _ _ _ _ _ (ap modelFound (sym (c .before .before .before .before .before .before .before .before .before .before .before .before .before .before .before .before .before .before .before .before .before .before .before .before .before .before .before .before .found .given .1)) ∙ c .before .before .before .before .before .before .before .before .before .before .before .before .before .before .before .before .before .before .before .before .before .before .before .before .before .before .before .before .before .before .numbered .ensures) (tells-concluded _ _ _ _ _ _ (enough _ _ _ (sym (c .before .before .before .before .before .before .before .before .before .before .before .before .before .before .before .before .before .before .before .before .before .before .before .before .before .before .long-enough .ensures) ∙ c .before .before .before .before .before .before .before .before .before .before .before .before .before .before .before .before .before .before .before .before .before .before .before .before .before .if1 .taken)) _ _ _ _ (c .before .before .before .before .before .before .before .before .before .before .before .before .before .before .before .before .read-front .ensures) _ (c .conclude .ensures))
+returns c = answer-known _ _ _ _ _ _ _ _ (ap modelFound (sym (c .before .before .before .before .before .before .before .before .before .before .before .before .before .before .before .before .before .before .before .before .before .before .before .before .before .found .given .1)) ∙ c .before .before .before .before .before .before .before .before .before .before .before .before .before .before .before .before .before .before .before .before .before .before .before .before .before .before .before .numbered .ensures) (tells-concluded _ _ _ _ _ _ (enough _ _ _ (sym (c .before .before .before .before .before .before .before .before .before .before .before .before .before .before .before .before .before .before .before .before .before .before .before .long-enough .ensures) ∙ c .before .before .before .before .before .before .before .before .before .before .before .before .before .before .before .before .before .before .before .before .before .before .if1 .taken)) _ _ _ _ (c .before .before .before .before .before .before .before .before .before .before .before .before .before .before .read-front .ensures) _ (c .conclude .ensures))
 
 reject-requires : tie.Need-reject-requires
 reject-requires c κs = search needs
@@ -85,7 +82,6 @@ read-spec =
     same-length-5
     same-length-6
     same-length-7
-    same-length-8
     returns
     reject-requires
     enum-told

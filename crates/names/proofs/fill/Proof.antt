@@ -20,7 +20,7 @@ write-requires c κs =
     let h = c .before .before .before .before .before .before .before .before .before .before .before .before .before .before .before .before .pre .1 .1 in
     record {
       columns = c .before .before .before .before .before .before .before .before .before .before .before .before .before .before .before .before .pre .0;
-      below = rw (c .before .before .before .before .strike-all .kept .1 .1 .0, c .before .before .before .before .before .before .before .before .before .list .kept .1 .1 .1 .0) (c .before .before .before .before .before .before .before .before .before .before .before .before .before .before .before .before .pre .1 .0);
+      below = rw (c .before .before .before .before .strike-all .kept .1 .1 .1 .0, c .before .before .before .before .before .before .before .before .before .list .kept .1 .1 .1 .0) (c .before .before .before .before .before .before .before .before .before .before .before .before .before .before .before .before .pre .1 .0);
       table = h .table;
       words = h .words;
       found = found (c .before .before .before .before .before .before .before .before .before .before .before .before .before .before .before .before .pre .0) (c .before .before .before .before .before .before .before .before .before .list .ensures) (c .before .before .before .before .strike-all .ensures .run (h .table) (h .counts) (plain-in (h .words)));

@@ -4,27 +4,12 @@ use Rattle.names.proofs.list.Reads as reads
 use Rattle.names.proofs.list.Lts as lts
 use Rattle.names.proofs.is_first.Reads as is-first-reads
 use borrow.Author.Needs.{needs}
-use borrow.Author.Tests.{eq-eqb, ne-eqb, lt-leb, le-leb, lt-ltb, le-ltb, eqb-true, eqb-false, leb-true, leb-false, ltb-true, ltb-false, not-true, not-false}
 use native.Mathlib.Omega.{arith}
-use native.Mathlib.Numerals.{add-one}
-use native.Mathlib.Nat.{mul-le-mul-left}
-use mathlib.Core.Path.{_≡_, refl, sym, ap, _∙_}
-use mathlib.Core.Bool.{Bool, true, false, _&&_, _||_, not}
-use mathlib.Core.List.{List, [], _∷_, _++_}
-use Prim.Native.Nat.{ℕ, zero, suc, _+_, _-_, _*_, _%_, _≤_, _<_}
-use lib.Dec.{eqb, leb, ltb}
-use lib.ListN.{length, drop, take, getD, set, replicate, length-set}
-use Rattle.definition.specs.Kind.{isName}
-use Rattle.definition.specs.Name.{nameOf, offsetOf, lengthOf}
-use Rattle.laws.specs.Columns.{Columns}
-use Rattle.names.specs.Names.{isFirst, HeldWords, Writes}
-use Rattle.names.specs.Striking.{column, Listed, slot, left, Struck, Strikes, Found, Ready, Fills}
-use Rattle.names.proofs.Crossing.{first-name, first-place, ListedTo, list-none, list-more, list-same, list-all, struck-none, struck-on, strike-it, strike-no, column-more, column-none, strike-more, strike-end, found}
-use Rattle.names.proofs.Filling.{Going, go-start, go-end, go-skip, go-room, go-take, found-first}
-use Rattle.table.specs.Held.{InWords}
-use Rattle.definition.specs.Table.{Table}
-use Rattle.definition.specs.NameTable.{heldNames}
-use Rattle.names.proofs.Holding.{all-struck, named}
+use mathlib.Core.Path.{_≡_, refl, sym, _∙_}
+use Prim.Native.Nat.{_+_, _-_, _≤_}
+use lib.ListN.{length, length-set}
+use Rattle.laws.proofs.Columns.{columns-short}
+use Rattle.names.proofs.Crossing.{ListedTo, list-none, list-more, list-same, list-all}
 
 abbrev Inv-loop : tie.InvT-loop
 Inv-loop kinds places numbers listed₀ i₀ listed i = (i ≤ length kinds) × ((length listed ≡ length listed₀) × ListedTo kinds places numbers listed i)
@@ -56,8 +41,11 @@ shared-slice-read-is-first c = search needs
 is-first-requires : tie.Need-is-first-requires Inv-loop μ-loop
 is-first-requires c κs = search needs
 
+add-listed : tie.Need-add-listed Inv-loop μ-loop
+add-listed c = search needs
+
 cast-listed : tie.Need-cast-listed Inv-loop μ-loop
-cast-listed c = omega (arith, c .before .before .before .before .before .before .before .before .before .before .before .pre .0 .fit (c .before .before .before .before .before .before .loop .i) (first-name _ _ _ (sym (c .before .is-first .ensures) ∙ c .if1 .taken)))
+cast-listed c = omega (arith, columns-short (c .before .before .before .before .before .before .before .before .before .before .before .pre .0), c .before .before .before .before .before .loop-test .taken)
 
 cast-listed-2 : tie.Need-cast-listed-2 Inv-loop μ-loop
 cast-listed-2 c = omega (arith, c .before .before .before .before .before .before .before .before .before .before .before .pre .0 .within (c .before .before .before .before .before .before .loop .i) (c .before .before .before .before .before .loop-test .taken))
@@ -106,6 +94,7 @@ list-spec =
     mul-is-first
     shared-slice-read-is-first
     is-first-requires
+    add-listed
     cast-listed
     cast-listed-2
     mul-listed

@@ -3,18 +3,40 @@ use Rattle.names.proofs.strike_name.Statement.{statement}
 use Rattle.names.proofs.strike_name.Tie as tie
 use Rattle.names.proofs.strike_name.Reads as reads
 use Rattle.names.proofs.strike_name.Lts as lts
+use native.Mathlib.Omega.{arith}
+use Prim.Native.Nat.{_%_}
 use Rattle.definition.specs.Name.{offsetOf}
-use Rattle.names.proofs.Crossing.{strike-it, strike-no, strike-past}
+use Rattle.names.proofs.Crossing.{strike-it, strike-past, strike-none, strike-beyond, strike-else}
 
 returns : tie.Need-returns
 unfolding offsetOf
-returns c = strike-past _ _ (c .if1 .taken)
+returns c = strike-past _ _ _ (c .if1 .taken)
 
-mul-if2 : tie.Need-mul-if2
-mul-if2 c = search needs
+mul-token : tie.Need-mul-token
+mul-token c = search needs
 
-slice-read-if2 : tie.Need-slice-read-if2
-slice-read-if2 c = search needs
+slice-read-token : tie.Need-slice-read-token
+slice-read-token c = search needs
+
+cast-token : tie.Need-cast-token
+cast-token c = omega (arith, c .slice-known .given (c .before .before .args .name % 65536))
+
+returns-2 : tie.Need-returns-2
+unfolding offsetOf
+returns-2 c = strike-none _ _ _ (c .if2 .taken)
+
+returns-3 : tie.Need-returns-3
+unfolding offsetOf
+returns-3 c = strike-beyond _ _ _ (c .if3 .taken)
+
+sub-if4 : tie.Need-sub-if4
+sub-if4 c = search needs
+
+mul-if4 : tie.Need-mul-if4
+mul-if4 c = search needs
+
+shared-slice-read-if4 : tie.Need-shared-slice-read-if4
+shared-slice-read-if4 c = search needs
 
 mul-listed : tie.Need-mul-listed
 mul-listed c = search needs
@@ -25,23 +47,29 @@ slice-write-listed c = search needs
 same-length : tie.Need-same-length
 same-length c = search needs
 
-returns-2 : tie.Need-returns-2
+returns-4 : tie.Need-returns-4
 unfolding offsetOf
-returns-2 c = strike-it _ _ (c .before .before .if1 .left) (c .if2 .taken)
+returns-4 c = strike-it _ _ _ (c .before .before .before .before .before .if1 .left) (omega (arith, c .before .before .before .if2 .left)) (c .if4 .taken)
 
-returns-3 : tie.Need-returns-3
+returns-5 : tie.Need-returns-5
 unfolding offsetOf
-returns-3 c = strike-no _ _ (λ q e. c .if2 .left e)
+returns-5 c = strike-else _ _ _ (c .if4 .left)
 
 pub strike-name-spec : {M : Type 1} → statement M
 strike-name-spec =
     tie.close
     (tie.spec
     returns
-    mul-if2
-    slice-read-if2
+    mul-token
+    slice-read-token
+    cast-token
+    returns-2
+    returns-3
+    sub-if4
+    mul-if4
+    shared-slice-read-if4
     mul-listed
     slice-write-listed
     same-length
-    returns-2
-    returns-3)
+    returns-4
+    returns-5)
