@@ -45,9 +45,12 @@ fn around(limit: usize) -> std::ops::RangeInclusive<usize> {
     limit - 1..=limit + 1
 }
 
+/// The longest text, and the lengths of scratch that a text is read in (crate `entry`).
+const LENGTHS: [usize; 5] = [64, 320, 1_536, 7_168, 32_768];
+
 fn lengths() -> Vec<String> {
     let mut texts = Vec::new();
-    for length in around(32_768) {
+    for length in LENGTHS.into_iter().flat_map(around) {
         let filled = |start: &str, end: &str| {
             let middle = " ".repeat(length - start.len() - end.len());
             format!("{start}{middle}{end}")
@@ -59,6 +62,10 @@ fn lengths() -> Vec<String> {
         texts.push(filled("/*", ""));
         texts.push(filled("", "@"));
         texts.push(filled("char*s=\"", "\";"));
+        // A name in the last byte, and as many tokens as bytes.
+        texts.push(filled("int a,", "z"));
+        texts.push(";".repeat(length));
+        texts.push(format!("int{}", "*".repeat(length - 3)));
     }
     texts
 }
