@@ -94,7 +94,7 @@ impl Slices {
     }
 }
 
-/// An empty part is passed over: where memory was never used, a `memset` of no bytes takes some 0.1 us on processors with AVX-512 (glibc's stores nothing there, under a mask, and that is slow).
+/// An empty part is passed over: on memory that was never used, a `memset` of no bytes takes some 0.2 us where glibc uses AVX-512.
 fn clear<T: Clone + Default>(part: &mut [T]) {
     if !part.is_empty() {
         part.fill(T::default());
