@@ -15,7 +15,7 @@ const COUNT_CAP: u64 = 127;
 // The last place of a value's bits.
 const SIGN_PLACE: u32 = 63;
 
-#[derive(Drop)]
+#[derive(Clone, Copy)]
 pub enum Number {
     Value(i64),
     OutOfRange,

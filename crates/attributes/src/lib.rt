@@ -10,7 +10,7 @@ use encoding::refusals::NOT_CLOSED;
 use scan::{blanks_end, byte_at};
 
 // An attribute: whether its body could change a layout, and where it ends; or a refusal with its number and offset.
-#[derive(Drop)]
+#[derive(Clone, Copy)]
 pub enum Attribute {
     Got(bool, usize),
     Refused(u32, usize),

@@ -19,7 +19,7 @@ use table::{Cursor, Step, kind_at};
 const WIDEST: i64 = 64;
 
 // An array's bound and where to read on; without a bound; or a refusal.
-#[derive(Drop)]
+#[derive(Clone, Copy)]
 pub enum Bound {
     Of(Cursor, u64),
     Open(Cursor),

@@ -22,25 +22,25 @@ const DEPTHS: u32 = Model::MAX_DEPTH + 1;
 // Below every operator's precedence.
 const NO_PRECEDENCE: u32 = 0;
 // A place among the tokens.
-#[derive(Drop)]
+#[derive(Clone, Copy)]
 pub struct Place {
     pub at: usize,
 }
 
-#[derive(Drop)]
+#[derive(Clone, Copy)]
 pub enum Reading {
     Value(Place, i64),
     Refused(u32, usize),
 }
 
 // A value, and the table's cursor after it.
-#[derive(Drop)]
+#[derive(Clone, Copy)]
 pub enum Evaluated {
     Done(Cursor, i64),
     Refused(u32, usize),
 }
 
-#[derive(Drop)]
+#[derive(Clone, Copy)]
 pub enum Found {
     Known(i64),
     Unknown,

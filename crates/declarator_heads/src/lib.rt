@@ -21,7 +21,7 @@ use words::classes::is_name;
 use words::types::{Known, builtin};
 
 // A declarator: the name that it declares and where to read on, or a refusal; and its steps.
-#[derive(Drop)]
+#[derive(Clone, Copy)]
 pub struct Declared {
     pub answer: Step,
     pub steps: Steps,

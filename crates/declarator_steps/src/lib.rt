@@ -29,14 +29,14 @@ const RESTRICT: u64 = 4;
 const FIRST_UNIT: u64 = 4294967296;
 
 // A step as it is kept.
-#[derive(Drop)]
+#[derive(Clone, Copy)]
 pub struct Step {
     pub kind: u32,
     pub operand: u64,
 }
 
 // A step told apart: qualifiers; no bound; a bound; `...`, first parameter and count.
-#[derive(Drop)]
+#[derive(Clone, Copy)]
 pub enum Shape {
     Pointer(bool, bool, bool),
     Array,
@@ -45,7 +45,7 @@ pub enum Shape {
 }
 
 // The steps stand at the start, the stars that wait at the end, from the last entry down.
-#[derive(Drop)]
+#[derive(Clone, Copy)]
 pub struct Steps {
     pub kinds: [u32; Model::MAX_STEPS],
     pub operands: [u64; Model::MAX_STEPS],

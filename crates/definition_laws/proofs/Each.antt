@@ -34,12 +34,12 @@ module _ {E : Type 0} {P : ℕ → E → Type 0} where
   pub each_take : {n : ℕ} {es : List E} → Each P n es → (k : ℕ) → Each P n (take k es)
   each_take h zero = nil
   each_take nil (suc k) = nil
-  each_take (cons h hs) (suc k) = cons h (each_take hs k)
+  each_take {n} (cons h hs) (suc k) = cons h (each_take {n = suc n} hs k)
 
   pub each-drop : {n : ℕ} {es : List E} → Each P n es → (k : ℕ) → Each P (n + k) (drop k es)
   each-drop {n} h zero = let z : n + 0 ≡ n = omega arith in rw z h
   each-drop nil (suc k) = nil
-  each-drop {n} (cons h hs) (suc k) = let z : n + suc k ≡ suc n + k = omega arith in rw z (each-drop hs k)
+  each-drop {n} (cons h hs) (suc k) = let z : n + suc k ≡ suc n + k = omega arith in rw z (each-drop {n = suc n} hs k)
 
 -- the same of lists that are numbered from 0 on
 module _ {E : Type 0} {P : ℕ → E → Type 0} {es : List E} (h : Each P 0 es) where
@@ -68,7 +68,7 @@ module _ {E : Type 0} (P Q : ℕ → E → Type 0) (test : E → Bool) (change :
     unfolding changed_from
     each_changed zero early h = each_changed_all h
     each_changed (suc k) early nil = nil
-    each_changed {n} (suc k) early (cons h hs) = cons (early n _ (omega arith) h) (each_changed k (λ i e p. early i e (omega arith)) hs)
+    each_changed {n} (suc k) early (cons h hs) = cons (early n _ (omega arith) h) (each_changed {n = suc n} k (λ i e p. early i e (omega arith)) hs)
 
 pub changed_length : {E : Type 0} (test : E → Bool) (change : E → E) (k : ℕ) (es : List E) → length (changed_from test change k es) ≡ length es
 unfolding changed_from

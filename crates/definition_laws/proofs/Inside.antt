@@ -20,7 +20,7 @@ use Rattle.definition_laws.specs.Every.{Every}
 use Rattle.definition_laws.specs.Inside.{Inside}
 use Rattle.definition_laws.proofs.Every.{got!, no!, bool!, option!, then!, weaker!, any! }
 use Rattle.definition_laws.proofs.Each.{nil, cons, each-get}
-use Rattle.definition_laws.proofs.Sound.{Marks, Carries, row, Sound}
+use Rattle.definition_laws.proofs.Sound.{Marks, Carries, row, mark, Sound}
 use Rattle.definition_laws.proofs.SoundReader.{declaration-sound, declarations_from-sound}
 
 -- no list is open
@@ -30,6 +30,7 @@ none_open = record { members = []; values = []; parameters = [] }
 -- so every entry carries a row
 carried : {n i r : ℕ} → Carries n [] i r → r < n
 carried (row l) = l
+carried (mark first h _ _) = elim h [ ]
 
 no_less : 0 < 0 → ⊥
 no_less p = omega arith

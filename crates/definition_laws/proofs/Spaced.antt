@@ -87,7 +87,7 @@ unfolding kind.is_name
 ellipsis_no_name = refl
 
 record Marked (m : Mark) : Type 0 where
-  no_name_lem : kind.is_name m.kind ≡ false
+  no_name : kind.is_name m.kind ≡ false
   takes : 0 < m.size
 
 marked : (a b c : ℕ) → Marked (mark_of a b c)
@@ -95,9 +95,9 @@ unfolding mark_of short_mark
 marked a b c = go (eqb a dot_byte && (eqb b dot_byte && eqb c dot_byte)) (eqb (mark_among two_byte_marks (pair a b)) kind.end)
   where
     go : (p q : Bool) → Marked (elim p as (λ z. Mark) [ true ↦ record { kind = kind.ellipsis; size = 3 } | false ↦ elim q as (λ z. Mark) [ true ↦ short_mark a | false ↦ record { kind = mark_among two_byte_marks (pair a b); size = 2 } ] ])
-    go true q = record { no_name_lem = ellipsis_no_name; takes = omega arith }
-    go false true = record { no_name_lem = among_no_name one_byte_marks a one_no_names; takes = omega arith }
-    go false false = record { no_name_lem = among_no_name two_byte_marks (pair a b) two_no_names; takes = omega arith }
+    go true q = record { no_name = ellipsis_no_name; takes = omega arith }
+    go false true = record { no_name = among_no_name one_byte_marks a one_no_names; takes = omega arith }
+    go false false = record { no_name = among_no_name two_byte_marks (pair a b) two_no_names; takes = omega arith }
 
 mark_no_name : (bs : Bytes) → kind.is_name (mark_at bs).kind ≡ false
 unfolding mark_at

@@ -23,7 +23,7 @@ const DROPPED: u32 = 11;
 const DEFINE: [u32; 6] = [100, 101, 102, 105, 110, 101];
 
 // A # line: whether it is kept, and where it ends.
-#[derive(Drop)]
+#[derive(Clone, Copy)]
 pub struct Decided {
     pub keeps: bool,
     pub next: usize,

@@ -3,7 +3,7 @@ ghost use Rattle.std.specs.Prelude.{◌≡◌};
 ghost use Rattle.definition.specs.Table.{storage_number};
 ghost use Rattle.encoding.specs.Storage.{storage, storage_numbered};
 
-#[derive(Drop)]
+#[derive(Clone, Copy)]
 pub enum Storage {
     NoStorage,
     Typedef,

@@ -46,7 +46,7 @@ const LARGE_LINKS: usize = HEADS + LINKS * LARGE_TEXT;
 const LONGEST_LINKS: usize = HEADS + LINKS * Model::MAX_TEXT;
 
 // How many there are of each.
-#[derive(Drop)]
+#[derive(Clone, Copy)]
 pub struct Counts {
     pub rows: usize,
     pub members: usize,
@@ -57,20 +57,20 @@ pub struct Counts {
 }
 
 // What the caller is told: counts, or a refusal with its number, offset, line and column.
-#[derive(Drop)]
+#[derive(Clone, Copy)]
 pub enum Outcome {
     Accepted(Counts),
     Rejected(u32, usize, usize, usize),
 }
 
 // How a text was read: counts, or a refusal with its number and offset.
-#[derive(Drop)]
+#[derive(Clone, Copy)]
 pub enum Reading {
     Done(Counts),
     Refused(u32, usize),
 }
 
-#[derive(Drop)]
+#[derive(Clone, Copy)]
 pub enum Entry {
     WholeHeader,
     SingleDeclaration,

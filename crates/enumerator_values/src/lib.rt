@@ -15,14 +15,14 @@ use evaluating::constant_here;
 use table::{Cursor, kind_at};
 
 // The value of an enumerator that has none of its own; after the greatest of all, there is none.
-#[derive(Drop)]
+#[derive(Clone, Copy)]
 pub enum Next {
     Value(i64),
     Past,
 }
 
 // What an enumerator's value is, and where to read on; or a refusal.
-#[derive(Drop)]
+#[derive(Clone, Copy)]
 pub enum Given {
     Reads(Cursor, Next),
     Refused(u32, usize),

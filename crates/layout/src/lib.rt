@@ -23,28 +23,28 @@ use table::{
 };
 
 // A member's size, or the refusal at its place.
-#[derive(Drop)]
+#[derive(Clone, Copy)]
 pub enum Bytes {
     Number(u64),
     Refused(u32),
 }
 
 // A member's byte offset and first bit, and what has been laid out with it; or the refusal at its place.
-#[derive(Drop)]
+#[derive(Clone, Copy)]
 pub enum Place {
     At(u64, u64, Laid),
     Refused(u32),
 }
 
 // What the members take; or a refusal, and the token that it names.
-#[derive(Drop)]
+#[derive(Clone, Copy)]
 pub enum Placing {
     Done(Laid),
     Refused(u32, usize),
 }
 
 // A body's size; or a refusal, and the token that it names.
-#[derive(Drop)]
+#[derive(Clone, Copy)]
 pub enum Laying {
     Size(u64),
     Refused(u32, usize),

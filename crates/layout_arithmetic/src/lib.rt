@@ -15,27 +15,27 @@ const ALL_BYTES: u64 = 2305843009213693952;
 pub const SIZE_LIMIT: u64 = 4294967296;
 
 // Bits taken, the largest alignment, the widest member of a union.
-#[derive(Drop)]
+#[derive(Clone, Copy)]
 pub struct Laid {
     pub taken: u64,
     pub align: u64,
     pub widest: u64,
 }
 
-#[derive(Drop)]
+#[derive(Clone, Copy)]
 pub enum Exact {
     Number(u64),
     Overflow,
 }
 
 // Byte offset, first bit, and what has been laid out with the member.
-#[derive(Drop)]
+#[derive(Clone, Copy)]
 pub enum Placed {
     At(u64, u64, Laid),
     Overflow,
 }
 
-#[derive(Drop)]
+#[derive(Clone, Copy)]
 pub enum Sized {
     Bytes(u64),
     TooLarge,

@@ -16,7 +16,7 @@ use spellings::{NAME_LENGTH, Spot, slot, walk};
 const LAST_BYTE: u32 = 127;
 
 // How many tokens, or a refusal with its number and offset.
-#[derive(Drop)]
+#[derive(Clone, Copy)]
 pub enum Lexing {
     Done(usize),
     Refused(u32, usize),

@@ -68,7 +68,7 @@ module _ {E : Type 0} (P Q : ℕ → E → Type 0) (test : E → Bool) (change :
   unfolding changed_from
   later_changed zero p h = all_changed (omega arith) h
   later_changed (suc k) p nil = nil
-  later_changed {n} (suc k) p (cons {e} h hs) = cons (keep n e h) (later_changed k (omega arith) hs)
+  later_changed {n} (suc k) p (cons {e} h hs) = cons (keep n e h) (later_changed {n = suc n} k (omega arith) hs)
 
 abbrev pub Laid : ℕ → ℕ → Member → Type 0
 Laid first i e = MemberFits e × Ready first i e

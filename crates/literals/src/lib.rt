@@ -12,14 +12,14 @@ use scan::byte_at;
 const NO_DIGIT: u32 = 99;
 
 // The value of a number, or a refusal with its number and offset.
-#[derive(Drop)]
+#[derive(Clone, Copy)]
 pub enum Value {
     Got(u64),
     Refused(u32, usize),
 }
 
 // The value of a character constant or a byte of one, and the offset after it, or a refusal with its number and offset.
-#[derive(Drop)]
+#[derive(Clone, Copy)]
 pub enum Reading {
     Got(u64, usize),
     Refused(u32, usize),

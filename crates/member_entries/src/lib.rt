@@ -22,7 +22,7 @@ use open_lists::{field_count, fields_only};
 use table::{Cursor, Move, Step};
 
 // A body that was laid out: where to read on, its size, its first field and how many there are; or a refusal.
-#[derive(Drop)]
+#[derive(Clone, Copy)]
 pub enum Laid {
     Body(Cursor, u64, u32, u32),
     Refused(u32, usize),

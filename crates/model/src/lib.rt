@@ -6,7 +6,7 @@ ghost use Rattle.model.specs.Limits.{sizes, levels};
 ghost use Rattle.model.specs.Meaning.{model, model_found};
 
 // The eleven numbers: sizes in bytes, and the largest alignment of a scalar.
-#[derive(Drop)]
+#[derive(Clone, Copy)]
 pub struct Model {
     pub char_signed: bool,
     pub short: u64,
@@ -21,7 +21,7 @@ pub struct Model {
     pub enum_size: u64,
 }
 
-#[derive(Drop)]
+#[derive(Clone, Copy)]
 pub enum ModelFound {
     Found(Model),
     Unknown,

@@ -17,7 +17,7 @@ use encoding::row_kinds::{ENUM_KIND, QUALIFIED_KIND, STRUCT_KIND, TYPEDEF_KIND, 
 use model::Model;
 use table::{Cursor, Numbers, Step, first_named, push_row, row_kind, row_target};
 
-#[derive(Drop)]
+#[derive(Clone, Copy)]
 pub enum Found {
     At(u32),
     Nothing,

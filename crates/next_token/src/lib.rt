@@ -19,7 +19,7 @@ use scan::{
 
 // A piece: nothing, with the next offset and whether a line starts there; a token, with its kind, number and the next offset;
 // a name, with its kind and the next offset; or a refusal with its number and offset.
-#[derive(Drop)]
+#[derive(Clone, Copy)]
 pub enum Piece {
     Skip(usize, bool),
     Token(u32, u64, usize),

@@ -18,7 +18,7 @@ use table::{Cursor, Step, kind_at, push_parameter};
 const VOID_ROW: u32 = 0;
 
 // What follows a declarator's name, as a step, with where to read on; or a refusal.
-#[derive(Drop)]
+#[derive(Clone, Copy)]
 pub enum Suffix {
     Done(Cursor, declarator_steps::Step),
     Refused(u32, usize),

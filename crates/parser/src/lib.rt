@@ -54,13 +54,13 @@ const NO_STORAGE: u32 = 0;
 const NAME_LEVELS: u32 = 2;
 
 // Specifiers, or a type with a name, each with where to read on; or a refusal.
-#[derive(Drop)]
+#[derive(Clone, Copy)]
 pub enum Specified {
     Done(Cursor, Specifiers),
     Refused(u32, usize),
 }
 
-#[derive(Drop)]
+#[derive(Clone, Copy)]
 pub enum Typed {
     Done(Cursor, u32, u32),
     Refused(u32, usize),
@@ -69,7 +69,7 @@ pub enum Typed {
 // ---- specifiers
 
 // The row of a struct, union or enum, by its keyword.
-#[cycle(after_type_body_composite_declarator_declarators_declared_type_direct_list_member_member_list_one_member_parameter_parameters_specifiers_suffix_suffixes_tag_type_type_row_with_tag_without_tag)]
+#[cycle(levels)]
 fn tag_type(
     kinds: &[u32],
     numbers: &[u64],
@@ -92,7 +92,7 @@ fn tag_type(
 }
 
 // The row of a tag or a type name, read past it.
-#[cycle(after_type_body_composite_declarator_declarators_declared_type_direct_list_member_member_list_one_member_parameter_parameters_specifiers_suffix_suffixes_tag_type_type_row_with_tag_without_tag)]
+#[cycle(levels)]
 fn type_row(
     kinds: &[u32],
     numbers: &[u64],
@@ -121,7 +121,7 @@ fn type_row(
 }
 
 // Words are read on until one is no specifier.
-#[cycle(after_type_body_composite_declarator_declarators_declared_type_direct_list_member_member_list_one_member_parameter_parameters_specifiers_suffix_suffixes_tag_type_type_row_with_tag_without_tag)]
+#[cycle(levels)]
 pub fn specifiers(
     kinds: &[u32],
     numbers: &[u64],
@@ -178,7 +178,7 @@ pub fn specifiers(
 // ---- structs and unions
 
 // After `struct` or `union`.
-#[cycle(after_type_body_composite_declarator_declarators_declared_type_direct_list_member_member_list_one_member_parameter_parameters_specifiers_suffix_suffixes_tag_type_type_row_with_tag_without_tag)]
+#[cycle(levels)]
 pub fn composite(
     kinds: &[u32],
     numbers: &[u64],
@@ -218,7 +218,7 @@ pub fn composite(
 }
 
 // A tag is known before its body is read, so that the body can name it. `at` is the tag's place.
-#[cycle(after_type_body_composite_declarator_declarators_declared_type_direct_list_member_member_list_one_member_parameter_parameters_specifiers_suffix_suffixes_tag_type_type_row_with_tag_without_tag)]
+#[cycle(levels)]
 fn with_tag(
     kinds: &[u32],
     numbers: &[u64],
@@ -255,7 +255,7 @@ fn with_tag(
 }
 
 // A body without a tag.
-#[cycle(after_type_body_composite_declarator_declarators_declared_type_direct_list_member_member_list_one_member_parameter_parameters_specifiers_suffix_suffixes_tag_type_type_row_with_tag_without_tag)]
+#[cycle(levels)]
 fn without_tag(
     kinds: &[u32],
     numbers: &[u64],
@@ -283,7 +283,7 @@ fn without_tag(
 }
 
 // A body after its brace, laid out; `at` is its tag's place.
-#[cycle(after_type_body_composite_declarator_declarators_declared_type_direct_list_member_member_list_one_member_parameter_parameters_specifiers_suffix_suffixes_tag_type_type_row_with_tag_without_tag)]
+#[cycle(levels)]
 fn body(
     kinds: &[u32],
     numbers: &[u64],
@@ -309,7 +309,7 @@ fn body(
 }
 
 // Members up to the closing brace.
-#[cycle(after_type_body_composite_declarator_declarators_declared_type_direct_list_member_member_list_one_member_parameter_parameters_specifiers_suffix_suffixes_tag_type_type_row_with_tag_without_tag)]
+#[cycle(levels)]
 fn member_list(
     kinds: &[u32],
     numbers: &[u64],
@@ -349,7 +349,7 @@ fn member_list(
 }
 
 // One member declaration: its type, and its declarators.
-#[cycle(after_type_body_composite_declarator_declarators_declared_type_direct_list_member_member_list_one_member_parameter_parameters_specifiers_suffix_suffixes_tag_type_type_row_with_tag_without_tag)]
+#[cycle(levels)]
 fn member(
     kinds: &[u32],
     numbers: &[u64],
@@ -385,7 +385,7 @@ fn member(
 }
 
 // What follows the type of a member declaration that began at `at`.
-#[cycle(after_type_body_composite_declarator_declarators_declared_type_direct_list_member_member_list_one_member_parameter_parameters_specifiers_suffix_suffixes_tag_type_type_row_with_tag_without_tag)]
+#[cycle(levels)]
 fn after_type(
     kinds: &[u32],
     numbers: &[u64],
@@ -412,7 +412,7 @@ fn after_type(
 }
 
 // The declarators of one member declaration, up to its semicolon.
-#[cycle(after_type_body_composite_declarator_declarators_declared_type_direct_list_member_member_list_one_member_parameter_parameters_specifiers_suffix_suffixes_tag_type_type_row_with_tag_without_tag)]
+#[cycle(levels)]
 fn declarators(
     kinds: &[u32],
     numbers: &[u64],
@@ -449,7 +449,7 @@ fn declarators(
 }
 
 // An unnamed bit-field, or a declarator with or without a width.
-#[cycle(after_type_body_composite_declarator_declarators_declared_type_direct_list_member_member_list_one_member_parameter_parameters_specifiers_suffix_suffixes_tag_type_type_row_with_tag_without_tag)]
+#[cycle(levels)]
 fn one_member(
     kinds: &[u32],
     numbers: &[u64],
@@ -485,7 +485,7 @@ fn one_member(
 // ---- declarators
 
 // Stars, and what they stand before. The stars of the declarators around this one wait in `s`; it has no steps yet.
-#[cycle(after_type_body_composite_declarator_declarators_declared_type_direct_list_member_member_list_one_member_parameter_parameters_specifiers_suffix_suffixes_tag_type_type_row_with_tag_without_tag)]
+#[cycle(levels)]
 fn declarator(
     kinds: &[u32],
     numbers: &[u64],
@@ -526,7 +526,7 @@ fn declarator(
 }
 
 // A name, a declarator in parentheses, or nothing; then what follows it.
-#[cycle(after_type_body_composite_declarator_declarators_declared_type_direct_list_member_member_list_one_member_parameter_parameters_specifiers_suffix_suffixes_tag_type_type_row_with_tag_without_tag)]
+#[cycle(levels)]
 fn direct(
     kinds: &[u32],
     numbers: &[u64],
@@ -580,7 +580,7 @@ fn direct(
 }
 
 // Bounds and parameter lists after a name.
-#[cycle(after_type_body_composite_declarator_declarators_declared_type_direct_list_member_member_list_one_member_parameter_parameters_specifiers_suffix_suffixes_tag_type_type_row_with_tag_without_tag)]
+#[cycle(levels)]
 fn suffixes(
     kinds: &[u32],
     numbers: &[u64],
@@ -623,7 +623,7 @@ fn suffixes(
 }
 
 // One of them, after its bracket or parenthesis, which is of a kind.
-#[cycle(after_type_body_composite_declarator_declarators_declared_type_direct_list_member_member_list_one_member_parameter_parameters_specifiers_suffix_suffixes_tag_type_type_row_with_tag_without_tag)]
+#[cycle(levels)]
 fn suffix(
     kinds: &[u32],
     numbers: &[u64],
@@ -653,7 +653,7 @@ fn suffix(
 // ---- parameters
 
 // The list after `(`.
-#[cycle(after_type_body_composite_declarator_declarators_declared_type_direct_list_member_member_list_one_member_parameter_parameters_specifiers_suffix_suffixes_tag_type_type_row_with_tag_without_tag)]
+#[cycle(levels)]
 fn parameters(
     kinds: &[u32],
     numbers: &[u64],
@@ -676,7 +676,7 @@ fn parameters(
 }
 
 // One parameter: its type, its name.
-#[cycle(after_type_body_composite_declarator_declarators_declared_type_direct_list_member_member_list_one_member_parameter_parameters_specifiers_suffix_suffixes_tag_type_type_row_with_tag_without_tag)]
+#[cycle(levels)]
 fn parameter(
     kinds: &[u32],
     numbers: &[u64],
@@ -736,7 +736,7 @@ fn pointer_type(
 }
 
 // A declarator of a base type: what it makes of the type, and its name. The two most frequent ones need no steps.
-#[cycle(after_type_body_composite_declarator_declarators_declared_type_direct_list_member_member_list_one_member_parameter_parameters_specifiers_suffix_suffixes_tag_type_type_row_with_tag_without_tag)]
+#[cycle(levels)]
 pub fn declared_type(
     kinds: &[u32],
     numbers: &[u64],
@@ -775,7 +775,7 @@ pub fn declared_type(
 }
 
 // Parameters up to the closing parenthesis.
-#[cycle(after_type_body_composite_declarator_declarators_declared_type_direct_list_member_member_list_one_member_parameter_parameters_specifiers_suffix_suffixes_tag_type_type_row_with_tag_without_tag)]
+#[cycle(levels)]
 fn list(
     kinds: &[u32],
     numbers: &[u64],

@@ -31,7 +31,7 @@ const AND_AND_BYTES: u32 = PAIR * ascii::AMPERSAND + ascii::AMPERSAND;
 const OR_OR_BYTES: u32 = PAIR * ascii::BAR + ascii::BAR;
 
 // A mark: its kind, 0 for none, and how many bytes it takes.
-#[derive(Drop)]
+#[derive(Clone, Copy)]
 pub struct Found {
     pub kind: u32,
     pub size: usize,

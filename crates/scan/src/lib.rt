@@ -36,7 +36,7 @@ const LOW_MARKS: u64 = 18158794493929717760;
 const HIGH_MARKS: u64 = 8646911286296182784;
 
 // A place in a text, counted from 1.
-#[derive(Drop)]
+#[derive(Clone, Copy)]
 pub struct Spot {
     pub line: usize,
     pub column: usize,

@@ -15,14 +15,14 @@ use table::{
 };
 
 // A size in bytes; one above 2^64 - 1 is `Big`.
-#[derive(Drop)]
+#[derive(Clone, Copy)]
 pub enum Size {
     Known(u64),
     Big,
     Unknown,
 }
 
-#[derive(Drop)]
+#[derive(Clone, Copy)]
 pub enum Align {
     Known(u64),
     Absent,

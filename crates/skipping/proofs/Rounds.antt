@@ -122,7 +122,7 @@ turned : (a b : Bool) (o c : ℕ) → ◌≡◌ {A = ℤ} (elim a as (λ z. ℤ)
     (depth (o + bit a) (c + bit (b && not a)))
 turned true true o c = let e : c + 0 ≡ c = omega arith in let f : o + 1 ≡ suc o = omega arith in rw (e, f) (sym (depth-opened o c))
 turned true false o c = let e : c + 0 ≡ c = omega arith in let f : o + 1 ≡ suc o = omega arith in rw (e, f) (sym (depth-opened o c))
-turned false true o c = let e : c + 1 ≡ suc c = omega arith in let f : o + 0 ≡ o = omega arith in rw (e, f)
+turned false true o c = let e : c + 1 ≡ suc c = omega arith in let f : o + 0 ≡ o = omega arith in rw (f, e)
 turned false false o c = let e : c + 0 ≡ c = omega arith in let f : o + 0 ≡ o = omega arith in rw (e, f)
 
 nested_is : (k o c : ℕ) → nested k (depth o c) ≡ depth (o + bit (opener k)) (c + bit (closer k && not (opener k)))

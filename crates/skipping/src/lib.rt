@@ -15,7 +15,7 @@ use encoding::token_kinds::{
 };
 
 // Qualifiers, and the index of the token after them.
-#[derive(Drop)]
+#[derive(Clone, Copy)]
 pub struct Qualified {
     pub constant: bool,
     pub volatile: bool,

@@ -26,7 +26,7 @@ pub const FEW_HEADS: usize = 64;
 pub const LINKS: usize = 2;
 
 // The name that a spelling has, or the link that its first token is to be put at.
-#[derive(Drop)]
+#[derive(Clone, Copy)]
 pub enum Spot {
     Known(u64),
     Free(usize),

@@ -60,7 +60,7 @@ pub const LAST_DECLARATION: usize = LAST_ROW + 4;
 pub const TOP: usize = LAST_ROW + 5;
 
 // Where the reader stands, and how many of each there are.
-#[derive(Drop)]
+#[derive(Clone, Copy)]
 pub struct Cursor {
     pub at: usize,
     pub rows: usize,
@@ -71,7 +71,7 @@ pub struct Cursor {
 }
 
 // The numbers of a row.
-#[derive(Drop)]
+#[derive(Clone, Copy)]
 pub struct Numbers {
     pub kind: u32,
     pub target: u32,
@@ -83,7 +83,7 @@ pub struct Numbers {
 }
 
 // A declaration: its storage, the row of its type, its name (0 for none).
-#[derive(Drop)]
+#[derive(Clone, Copy)]
 pub struct Declaration {
     pub storage: Storage,
     pub ty: u32,
@@ -91,13 +91,13 @@ pub struct Declaration {
 }
 
 // A number and where to read on, or a refusal: its number and the token that it names.
-#[derive(Drop)]
+#[derive(Clone, Copy)]
 pub enum Step {
     Done(Cursor, u32),
     Refused(u32, usize),
 }
 
-#[derive(Drop)]
+#[derive(Clone, Copy)]
 pub enum Move {
     To(Cursor),
     Refused(u32, usize),

@@ -10,7 +10,7 @@ use encoding::token_kinds::{
     UNSIGNED_WORD, VOID_WORD,
 };
 
-#[derive(Drop)]
+#[derive(Clone, Copy)]
 pub struct Words {
     pub void: u32,
     pub char: u32,

@@ -7,7 +7,7 @@ ghost use Rattle.words.specs.Meaning.{qualifiers, qualifiers_in};
 
 use encoding::token_kinds::{CONST_WORD, RESTRICT_WORD, VOLATILE_WORD};
 
-#[derive(Drop)]
+#[derive(Clone, Copy)]
 pub struct Qualifiers {
     pub is_const: bool,
     pub is_volatile: bool,

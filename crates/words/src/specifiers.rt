@@ -11,13 +11,13 @@ use crate::qualifiers::Qualifiers;
 use encoding::storage::Storage;
 
 // The row of a struct, union, enum or type name.
-#[derive(Drop)]
+#[derive(Clone, Copy)]
 pub enum Base {
     Row(u32),
     Absent,
 }
 
-#[derive(Drop)]
+#[derive(Clone, Copy)]
 pub struct Specifiers {
     pub storage: Storage,
     pub qualifiers: Qualifiers,

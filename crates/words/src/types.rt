@@ -16,7 +16,7 @@ use encoding::token_kinds::{
 use model::Model;
 
 // The numbers of a row that words make; its other numbers are 0.
-#[derive(Drop)]
+#[derive(Clone, Copy)]
 pub struct BaseRow {
     pub kind: u32,
     pub flags: u32,
@@ -24,7 +24,7 @@ pub struct BaseRow {
 }
 
 // A type's row, or nothing where there is no type.
-#[derive(Drop)]
+#[derive(Clone, Copy)]
 pub enum Known {
     Row(BaseRow),
     Nothing,

@@ -1,0 +1,13 @@
+use borrow.Author.Rules.{sfits_of}
+use mir.Syntax.{w64}
+use Rattle.definition.specs.Arithmetic.{bits_or}
+use Rattle.arithmetic.proofs.Bitwise.{or_bits, or_in, narrow}
+use Rattle.arithmetic.proofs.Told.{made}
+use Rattle.arithmetic.proofs.bit_or.Goals as goal
+
+pub returns : goal.returns
+unfolding bits_or
+returns c =
+    let f = c.ranges.a in let g = c.ranges.b in
+    rw (or_bits w64 c.args.a c.args.b (narrow w64 c.args.a f.sfits) (narrow w64 c.args.b g.sfits))
+    (made (sfits_of (or_in 63 c.args.a c.args.b f.sfits g.sfits)))

@@ -1,0 +1,10 @@
+use Rattle.definition.specs.Arithmetic.{truth}
+use Rattle.arithmetic.proofs.truth_of.Goals as goal
+
+pub returns-then-b : goal.returns-then-b
+unfolding truth
+returns-then-b c = rw c.if-b.true
+
+pub returns-else-b : goal.returns-else-b
+unfolding truth
+returns-else-b c = rw c.if-b.false

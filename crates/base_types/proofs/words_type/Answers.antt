@@ -1,0 +1,21 @@
+use borrow.Author.Rules.{rules}
+use mathlib.Core.Path.{refl, sym, ap, ◌∙◌}
+use Rattle.definition.specs.Specifiers.{words_type}
+use Rattle.table.proofs.Branch.{some!, none! }
+use Rattle.table.proofs.Shown.{got!, no! }
+use Rattle.words.specs.Meaning.{base}
+use Rattle.words.proofs.Uses.{combine-plain}
+use Rattle.base_types.proofs.Named.{added, none-added}
+use Rattle.base_types.proofs.words_type.Goals as goal
+
+pub returns-in-Row : goal.returns-in-Row
+unfolding words_type
+returns-in-Row c = record { run = λ t h. some! _ _ _ (ap base c.in-Row.is) (got! h) }
+
+pub returns-in_default-k : goal.returns-in_default-k
+unfolding words_type
+returns-in_default-k c = record { run = λ t h. none! _ _ _ (ap base c.in_default.is) (none-added _ _ _ (sym c.in_default-k.is ∙ c.combine-k.ensures) (no! h refl)) }
+
+pub returns : goal.returns
+unfolding words_type
+returns c = record { run = λ t h. none! _ _ _ (ap base c.in_default.is) (added _ _ (combine-plain _ _) (sym c.in-Row-k.is ∙ c.combine-k.ensures) c.add_base.ensures h) }

@@ -1,0 +1,13 @@
+use borrow.Author.Rules.{rules}
+use native.Mathlib.Omega.{arith}
+use mathlib.Core.Path.{◌≡◌, refl}
+use Prim.Native.Nat.{◌-◌, ◌≤◌}
+use lib.ListN.{length, take, replicate, length-set}
+use Rattle.clearing.proofs.Zeros.{zeros_more, zeros_all}
+use Rattle.clearing.proofs.clear_u64.Given as goal
+
+abbrev pub invariant-loop-i : goal.invariant-loop-i
+invariant-loop-i l = (l.i ≤ length l.d) × (length l.d ≡ length l.initial.d) × (take l.i l.d ≡ replicate l.i 0)
+
+abbrev pub decreases-loop-i : goal.decreases-loop-i
+decreases-loop-i l = length l.d - l.i

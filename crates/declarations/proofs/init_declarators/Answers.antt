@@ -1,0 +1,64 @@
+use borrow.Author.Rules.{rules}
+use native.Mathlib.Omega.{arith}
+use native.Mathlib.Nat.{lt_of_lt_of_le}
+use mathlib.Core.Path.{sym, ap, ◌∙◌}
+use Rattle.constants.specs.Reading.{tokens}
+use Rattle.table.specs.Reply.{move}
+use Rattle.table.proofs.Rounds.{starts-at, turn}
+use Rattle.table.proofs.Shown.{got!, call, fail, held_at, held_on}
+use Rattle.table.proofs.Steps.{there, is+, is-}
+use Rattle.definition.specs.Token.{left}
+use Rattle.definition.specs.Reader.{init_declarators}
+use Rattle.definition_laws.proofs.Progress.{init_declarator-on}
+use Rattle.model.specs.Meaning.{model}
+use Rattle.encoding.specs.Storage.{storage}
+use Rattle.parser.proofs.Goes.{moves-on}
+use Rattle.parser.proofs.Lists.{Reading, begin, fewer}
+use Rattle.declarations.specs.Pieces.{declarators_in}
+use Rattle.declarations.proofs.init_declarators.Goals as goal
+
+pub loop-e-init : goal.loop-e-init
+loop-e-init c = begin c.requires.held
+
+pub init_declarator-r-requires : goal.init_declarator-r-requires
+init_declarator-r-requires c = record { held = c.loop-e.invariant.held; readable = c.requires.readable }
+
+pub shape_of-w-in_default : goal.shape_of-w-in_default
+shape_of-w-in_default c = c.w-1.given ∙ (c.loop-e.invariant.held.long.words ∙ sym c.requires.held.long.words)
+
+pub shape_of-d-in_default : goal.shape_of-d-in_default
+shape_of-d-in_default c = c.d-1.given ∙ (c.loop-e.invariant.held.long.wides ∙ sym c.requires.held.long.wides)
+
+pub shape_of-v-in_default : goal.shape_of-v-in_default
+shape_of-v-in_default c = c.v-1.given ∙ (c.loop-e.invariant.held.long.signeds ∙ sym c.requires.held.long.signeds)
+
+pub returns-in_default : goal.returns-in_default
+unfolding init_declarators
+returns-in_default c = record { rounds = λ n p. record { run = λ t₁ h. turn (c.loop-e.invariant.going n p t₁ h) (λ t₂ f l h₂. fail _ (c.init_declarator-r.ensures.run t₂ h₂) (ap move c.in_default.is)) } }
+
+pub shape_of-w-then-kind_at-ne-COMMA : goal.shape_of-w-then-kind_at-ne-COMMA
+shape_of-w-then-kind_at-ne-COMMA c = c.w-1.given ∙ (c.loop-e.invariant.held.long.words ∙ sym c.requires.held.long.words)
+
+pub shape_of-d-then-kind_at-ne-COMMA : goal.shape_of-d-then-kind_at-ne-COMMA
+shape_of-d-then-kind_at-ne-COMMA c = c.d-1.given ∙ (c.loop-e.invariant.held.long.wides ∙ sym c.requires.held.long.wides)
+
+pub shape_of-v-then-kind_at-ne-COMMA : goal.shape_of-v-then-kind_at-ne-COMMA
+shape_of-v-then-kind_at-ne-COMMA c = c.v-1.given ∙ (c.loop-e.invariant.held.long.signeds ∙ sym c.requires.held.long.signeds)
+
+pub returns-then-kind_at-ne-COMMA : goal.returns-then-kind_at-ne-COMMA
+unfolding init_declarators
+returns-then-kind_at-ne-COMMA c = record { rounds = λ n p. record { run = λ t₁ h. turn (c.loop-e.invariant.going n p t₁ h) (λ t₂ f l h₂. call _ (c.init_declarator-r.ensures.run t₂ h₂) (ap move c.in-To.is) (λ t₃ h₃. is- _ _ c.kind_at.ensures c.if-kind_at-ne-COMMA.true (got! h₃))) } }
+
+pub overflow_add-i : goal.overflow_add-i
+overflow_add-i c = omega (arith, c.requires.readable.few, there c.kind_at.ensures c.if-kind_at-ne-COMMA.false)
+
+pub loop-e-smaller : goal.loop-e-smaller
+loop-e-smaller c = fewer _ _ c.moved-here.ensures (moves-on c.init_declarator-r.ensures c.loop-e.invariant.held (ap move c.in-To.is) (init_declarator-on _ _ _ _)) (there c.kind_at.ensures c.if-kind_at-ne-COMMA.false)
+
+pub loop-e-preserved : goal.loop-e-preserved
+unfolding init_declarators
+loop-e-preserved c = record {
+  held = held_at c.moved-here.ensures (held_on c.init_declarator-r.ensures c.loop-e.invariant.held (ap move c.in-To.is));
+  going = λ n p t₁ h. turn (c.loop-e.invariant.going n p t₁ h) (λ t₂ f l h₂. call _ (c.init_declarator-r.ensures.run t₂ h₂) (ap move c.in-To.is) (λ t₃ h₃. is+ _ _ c.kind_at.ensures c.if-kind_at-ne-COMMA.false
+      (starts-at c.moved-here.ensures h₃ (lt_of_lt_of_le (fewer _ _ c.moved-here.ensures (moves-on c.init_declarator-r.ensures c.loop-e.invariant.held (ap move c.in-To.is) (init_declarator-on _ _ _ _)) (there c.kind_at.ensures c.if-kind_at-ne-COMMA.false)) l))));
+}

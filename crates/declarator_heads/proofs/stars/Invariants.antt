@@ -1,0 +1,13 @@
+use native.Mathlib.Omega.{arith}
+use borrow.Author.Rules.{rules}
+use lib.ListN.{length}
+use Prim.Native.Nat.{◌-◌}
+use Rattle.table.proofs.Steps.{there}
+use Rattle.declarator_heads.proofs.Rounds.{Reading, begin, has_room, ended, stopped, less, again}
+use Rattle.declarator_heads.proofs.stars.Given as goal
+
+abbrev pub invariant-loop-here : goal.invariant-loop-here
+invariant-loop-here l = Reading l.kinds l.initial.here l.initial.t l.here l.t
+
+abbrev pub decreases-loop-here : goal.decreases-loop-here
+decreases-loop-here l = length l.kinds - l.here.at

@@ -1,0 +1,17 @@
+use native.Mathlib.Omega.{arith}
+use mathlib.Core.Path.{◌≡◌, ap}
+use Prim.Native.Nat.{ℕ}
+use Prim.Native.Nat.{◌-◌}
+use borrow.Author.Rules.{rules, length_unmapped}
+use Rattle.declarator_steps.specs.Pending.{pending, released}
+use Rattle.declarator_steps.proofs.Views.{Releasing, releases, all-released}
+use Rattle.declarator_steps.proofs.release_stars.Goals as goal
+
+pub loop-i-init : goal.loop-i-init
+loop-i-init c = let e : c.args.n ≡ c.args.n - 0 = omega arith in record { sofar = omega arith; stars = omega arith; apart = omega arith; kinds-long = c.well_formed.0.1.1.0.1.0.1; operands_long = c.well_formed.0.1.1.1.0.1.0.1; same = ap (λ m. released m (pending c.args.s)) e }
+
+pub loop-i-preserved : goal.loop-i-preserved
+loop-i-preserved c = releases c.args.n c.loop-i.i c.args.s c.loop-i.t c.loop-i.invariant c.loop-i-test.true
+
+pub returns : goal.returns
+returns c = all-released c.args.n c.loop-i.i c.args.s c.loop-i.t c.loop-i.invariant c.loop-i-test.false

@@ -1,0 +1,14 @@
+use native.Mathlib.Omega.{arith}
+use mathlib.Core.Path.{◌≡◌, ap}
+use Prim.Native.Nat.{ℕ}
+use Prim.Native.Nat.{◌-◌}
+use borrow.Author.Rules.{rules, length_unmapped}
+use Rattle.declarator_steps.specs.Pending.{pending, released}
+use Rattle.declarator_steps.proofs.Views.{Releasing, releases, all-released}
+use Rattle.declarator_steps.proofs.release_stars.Given as goal
+
+abbrev pub invariant-loop-i : goal.invariant-loop-i
+invariant-loop-i l = Releasing l.n l.initial.t l.t l.i
+
+abbrev pub decreases-loop-i : goal.decreases-loop-i
+decreases-loop-i l = l.n - l.i

@@ -1,0 +1,16 @@
+use borrow.Author.Rules.{rules}
+use native.Mathlib.Omega.{arith}
+use Prim.Native.Nat.{max}
+use Rattle.layout_arithmetic.specs.Outcome.{laid_of}
+use Rattle.layout_arithmetic.proofs.Told.{is_number, is-small, is-over}
+use Rattle.layout_arithmetic.proofs.Members.{plain_at, plain_out}
+use Rattle.layout_arithmetic.proofs.plain_member.Goals as goal
+
+pub returns-in_default : goal.returns-in_default
+returns-in_default c = λ e. plain_out e (max c.args.align 1) (omega arith) (laid_of c.args.l) c.args.size (omega (arith, is-over c.next_place-n.ensures c.in_default.is))
+
+pub returns-in_default-m : goal.returns-in_default-m
+returns-in_default-m c = λ e. plain_out e (max c.args.align 1) (omega arith) (laid_of c.args.l) c.args.size (omega (arith, is_number c.next_place-n.ensures c.in-Number.is, is-over c.end_of-m.ensures c.in_default-m.is))
+
+pub returns : goal.returns
+returns c = λ e. plain_at e (max c.args.align 1) (omega arith) (laid_of c.args.l) _ _ _ _ (is_number c.next_place-n.ensures c.in-Number.is) (is_number c.end_of-m.ensures c.in-Number-m.is) (omega (arith, is_number c.end_of-m.ensures c.in-Number-m.is, is-small c.end_of-m.ensures c.in-Number-m.is)) c.advanced.ensures

@@ -1,0 +1,16 @@
+use borrow.Author.Rules.{rules}
+use mathlib.Core.Path.{ap}
+use Prim.Native.Nat.{◌-◌}
+use Rattle.definition.specs.Text.{bytes}
+use Rattle.definition.specs.Listing.{dots}
+use Rattle.printing.proofs.Writing.{word_as}
+use Rattle.line_format.proofs.Rows.{clear, set}
+use Rattle.line_format.proofs.next_dots.Goals as goal
+
+pub returns-then-flag-eq0 : goal.returns-then-flag-eq0
+unfolding bytes
+returns-then-flag-eq0 c = word_as c.next_word.ensures (ap dots (clear _ c.if-flag-eq0.true))
+
+pub returns : goal.returns
+unfolding bytes
+returns c = word_as c.next_word-2.ensures (ap dots (set _ c.if-flag-eq0.false))

@@ -1,0 +1,17 @@
+use borrow.Author.Rules.{rules}
+use native.Mathlib.Omega.{arith}
+use mathlib.Core.Path.{◌≡◌, sym, ◌∙◌}
+use Prim.Native.Nat.{◌-◌}
+use lib.ListN.{length, drop}
+use Rattle.definition.specs.Table.{Table}
+use Rattle.definition.specs.Types.{row_named}
+use Rattle.table.specs.Held.{InWords, Indexed}
+use Rattle.table.proofs.Index.{none_before}
+use Rattle.named_rows.proofs.Searches.{first_row, named_test, named-is, not_named, look-yes, look_no, look-end, look_skip, all_there}
+use Rattle.named_rows.proofs.row_named.Given as goal
+
+abbrev pub invariant-loop-i : goal.invariant-loop-i
+invariant-loop-i l = (t : Table) (h : InWords t l.w) → Indexed t.rows t.values h.rest → l.rows ≡ length t.rows → row_named l.kind l.name 0 t.rows ≡ first_row (named_test l.kind l.name) l.i (drop l.i t.rows)
+
+abbrev pub decreases-loop-i : goal.decreases-loop-i
+decreases-loop-i l = l.rows - l.i

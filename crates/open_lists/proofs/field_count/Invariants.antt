@@ -1,0 +1,17 @@
+use borrow.Author.Rules.{rules}
+use native.Mathlib.Omega.{arith}
+use mathlib.Core.Logic.{⊎_elim}
+use mathlib.Core.Path.{◌≡◌, sym, ap, ◌∙◌}
+use Prim.Native.Nat.{◌+◌, ◌-◌, ◌≤◌}
+use lib.ListN.{length, drop}
+use Rattle.definition.specs.Table.{Table, mark_of}
+use Rattle.definition.specs.Composite.{how_many_carry}
+use Rattle.table.specs.Held.{InWords}
+use Rattle.open_lists.proofs.Changed.{count-hit, count-miss, count-end}
+use Rattle.open_lists.proofs.field_count.Given as goal
+
+abbrev pub invariant-loop-i : goal.invariant-loop-i
+invariant-loop-i l = (l.fields ≤ l.i) × ((t : Table) → InWords t l.w → l.count ≡ length t.members → how_many_carry l.mark (drop l.first t.members) ≡ l.fields + how_many_carry l.mark (drop l.i t.members))
+
+abbrev pub decreases-loop-i : goal.decreases-loop-i
+decreases-loop-i l = l.count - l.i

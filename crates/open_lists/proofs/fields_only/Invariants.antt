@@ -1,0 +1,20 @@
+use borrow.Author.Rules.{rules}
+use mathlib.Core.Logic.{⊎_elim}
+use mathlib.Core.Path.{◌≡◌, sym, ap, ◌∙◌}
+use mathlib.Core.Bool.{◌&&◌, not}
+use Prim.Native.Nat.{◌-◌}
+use lib.Dec.{eqb}
+use lib.ListN.{length}
+use Rattle.definition.specs.Table.{mark_of}
+use Rattle.definition.specs.Composite.{is_field, fields_only}
+use Rattle.definition.specs.Region.{words_length}
+use Rattle.table.specs.Held.{member_at}
+use Rattle.open_lists.specs.Owning.{member_rerowed}
+use Rattle.open_lists.proofs.Changed.{members, Changing, starts, hit, miss, ends, past, drops, keeps, passes}
+use Rattle.open_lists.proofs.fields_only.Given as goal
+
+abbrev pub invariant-loop-i : goal.invariant-loop-i
+invariant-loop-i l = (length l.w ≡ words_length) × Changing members (λ e. eqb e.row l.mark && not (is_field e.width)) (λ e. member_rerowed e 0) l.first l.i l.c l.initial.w l.w
+
+abbrev pub decreases-loop-i : goal.decreases-loop-i
+decreases-loop-i l = l.count - l.i

@@ -1,0 +1,7 @@
+use borrow.Author.Rules.{rules}
+use Prim.Native.Nat.{◌-◌}
+use Rattle.printing.proofs.Writing.{then}
+use Rattle.printing.proofs.next_decimal.Goals as goal
+
+pub returns : goal.returns
+returns c = then c.put_byte-at.ensures c.put_decimal.ensures

@@ -1,0 +1,21 @@
+use borrow.Author.Rules.{rules}
+use native.Mathlib.Omega.{arith}
+use mathlib.Core.Path.{◌≡◌, refl, sym, ◌∙◌}
+use Prim.Native.Nat.{ℕ, ◌-◌}
+use lib.ListN.{length, drop}
+use Rattle.definition.specs.Table.{Table, carrying}
+use Rattle.definition_laws.proofs.Carrying.{carry_skip}
+use Rattle.table.specs.Held.{InWords, no_value}
+use Rattle.same_entries.proofs.next_value.Goals as goal
+
+pub loop-i-init : goal.loop-i-init
+loop-i-init c = λ t h e k. refl
+
+pub returns-then-value_row-row : goal.returns-then-value_row-row
+returns-then-value_row-row c = record { skips = c.loop-i.invariant; stops = λ t h p. sym (c.value_row.ensures.of t h) ∙ c.if-value_row-row.true }
+
+pub loop-i-preserved : goal.loop-i-preserved
+loop-i-preserved c = λ t h e k. c.loop-i.invariant t h e k ∙ carry_skip (λ e. e.row) no_value t.values _ k _ (omega (arith, e)) (λ q. c.if-value_row-row.false (c.value_row.ensures.of t h ∙ q))
+
+pub returns : goal.returns
+returns c = record { skips = c.loop-i.invariant; stops = λ t h p. absurd (omega arith) }

@@ -1,0 +1,15 @@
+use borrow.Author.Rules.{rules}
+use native.Mathlib.Omega.{arith}
+use mathlib.Core.Path.{◌≡◌, refl, sym, ◌∙◌}
+use Prim.Native.Nat.{ℕ, ◌-◌}
+use lib.ListN.{length, drop}
+use Rattle.definition.specs.Table.{Table, carrying}
+use Rattle.definition_laws.proofs.Carrying.{carry_skip}
+use Rattle.table.specs.Held.{InWords, no_value}
+use Rattle.same_entries.proofs.next_value.Given as goal
+
+abbrev pub invariant-loop-i : goal.invariant-loop-i
+invariant-loop-i l = (t : Table) → InWords t l.w → l.count ≡ length t.values → (k : ℕ) → carrying (λ e. e.row) l.row k (drop l.from t.values) ≡ carrying (λ e. e.row) l.row k (drop l.i t.values)
+
+abbrev pub decreases-loop-i : goal.decreases-loop-i
+decreases-loop-i l = l.count - l.i

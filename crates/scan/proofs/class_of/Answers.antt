@@ -1,0 +1,22 @@
+use borrow.Author.Rules.{rules}
+use borrow.Author.Tests.{eqb-true}
+use mathlib.Core.Path.{sym, ◌∙◌}
+use Rattle.definition.specs.Class.{is_blank}
+use Rattle.scan.proofs.Classes.{word-digit, word-letter, no_class}
+use Rattle.scan.proofs.class_of.Goals as goal
+
+pub returns-then-b-lt64 : goal.returns-then-b-lt64
+returns-then-b-lt64 c = sym (word-digit _ c.if-b-lt64.true (sym c.is_word_byte.ensures ∙ c.if-is_word_byte.true))
+
+pub returns-then-is_word_byte : goal.returns-then-is_word_byte
+returns-then-is_word_byte c = sym (word-letter _ c.if-b-lt64.false (sym c.is_word_byte.ensures ∙ c.if-is_word_byte.true))
+
+pub returns-then-is_blank : goal.returns-then-is_blank
+unfolding is_blank
+returns-then-is_blank c = sym (eqb-true _ _ (sym c.is_blank.ensures ∙ c.if-is_blank.true))
+
+pub returns-then-is_mark : goal.returns-then-is_mark
+returns-then-is_mark c = sym (eqb-true _ _ (sym c.is_mark.ensures ∙ c.if-is_mark.true))
+
+pub returns : goal.returns
+returns c = sym (no_class _ (sym c.is_word_byte.ensures ∙ c.if-is_word_byte.false) (sym c.is_blank.ensures ∙ c.if-is_blank.false) (sym c.is_mark.ensures ∙ c.if-is_mark.false))

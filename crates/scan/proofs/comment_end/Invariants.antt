@@ -1,0 +1,16 @@
+use borrow.Author.Rules.{rules}
+use native.Mathlib.Omega.{arith}
+use mathlib.Core.Path.{◌≡◌, refl, sym, ◌∙◌}
+use mathlib.Core.Logic.{⊎_elim}
+use Prim.Native.Nat.{◌+◌, ◌-◌}
+use lib.ListN.{length}
+use Rattle.definition.specs.Scan.{from, before}
+use Rattle.definition.specs.Comment.{ends_comment}
+use Rattle.scan.proofs.Going.{comment_closes, comment_plain, comment_star, comment_last}
+use Rattle.scan.proofs.comment_end.Given as goal
+
+abbrev pub invariant-loop-i : goal.invariant-loop-i
+invariant-loop-i l = l.at + before ends_comment (from l.text l.at) ≡ l.i + before ends_comment (from l.text l.i)
+
+abbrev pub decreases-loop-i : goal.decreases-loop-i
+decreases-loop-i l = length l.text - l.i

@@ -1,0 +1,17 @@
+use borrow.Author.Rules.{rules}
+use borrow.Author.Tests.{ltb-true, ltb-false}
+use native.Mathlib.Omega.{arith}
+use mathlib.Core.Path.{◌≡◌, refl, sym, ap, ◌∙◌}
+use mathlib.Core.Logic.{⊎_elim}
+use Prim.Native.Nat.{◌+◌, ◌-◌, ◌≤◌}
+use lib.ListN.{length}
+use Rattle.definition.specs.Scan.{before}
+use Rattle.definition.specs.Place.{after_all, place_of}
+use Rattle.scan.proofs.Going.{place_end, next-line, next-column}
+use Rattle.scan.proofs.line_column.Given as goal
+
+abbrev pub invariant-loop-i : goal.invariant-loop-i
+invariant-loop-i l = (l.i ≤ l.offset) × (l.i ≤ length l.text) × (l.line + l.column ≤ l.i + 2) × (1 ≤ l.column) × (record { line = l.line; column = l.column } ≡ place_of l.text l.i)
+
+abbrev pub decreases-loop-i : goal.decreases-loop-i
+decreases-loop-i l = length l.text - l.i

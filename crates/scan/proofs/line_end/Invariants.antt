@@ -1,0 +1,17 @@
+use borrow.Author.Rules.{rules}
+use borrow.Author.Tests.{eq-eqb, ne_eqb}
+use mathlib.Core.Path.{◌≡◌, refl}
+use Prim.Native.Nat.{◌+◌, ◌-◌}
+use lib.ListN.{length}
+use Rattle.definition.specs.Scan.{from, before}
+use Rattle.definition.specs.Comment.{ends_line, line_length}
+use Rattle.definition_laws.proofs.LexerProgress.{first-from}
+use Rattle.scan.proofs.Table.{at}
+use Rattle.scan.proofs.Going.{moves, stops, ends}
+use Rattle.scan.proofs.line_end.Given as goal
+
+abbrev pub invariant-loop-i : goal.invariant-loop-i
+invariant-loop-i l = l.at + before ends_line (from l.text l.at) ≡ l.i + before ends_line (from l.text l.i)
+
+abbrev pub decreases-loop-i : goal.decreases-loop-i
+decreases-loop-i l = length l.text - l.i

@@ -1,0 +1,16 @@
+use borrow.Author.Rules.{rules}
+use mathlib.Core.Path.{◌≡◌, refl}
+use Prim.Native.Nat.{◌+◌, ◌-◌}
+use lib.ListN.{length}
+use Rattle.definition.specs.Scan.{from, before}
+use Rattle.definition.specs.Number.{ends_number}
+use Rattle.definition_laws.proofs.LexerProgress.{first-from}
+use Rattle.scan.proofs.Table.{at}
+use Rattle.scan.proofs.Going.{moves, stops, ends}
+use Rattle.scan.proofs.number_end.Given as goal
+
+abbrev pub invariant-loop-i : goal.invariant-loop-i
+invariant-loop-i l = l.at + before ends_number (from l.text l.at) ≡ l.i + before ends_number (from l.text l.i)
+
+abbrev pub decreases-loop-i : goal.decreases-loop-i
+decreases-loop-i l = length l.text - l.i

@@ -1,0 +1,5 @@
+use borrow.Author.Rules.{rules}
+use Rattle.skipping.proofs.precedes_bound.Goals as goal
+
+pub returns : goal.returns
+returns c = rw c.qualifies.ensures at c.either.ensures

@@ -1,0 +1,18 @@
+use borrow.Author.Rules.{rules}
+use mathlib.Core.Path.{◌≡◌, refl, sym, ap, ◌∙◌}
+use mathlib.Core.List.{List}
+use Prim.Native.Nat.{ℕ, suc, ◌+◌, ◌-◌}
+use borrow.Author.Tests.{not-true, not-false}
+use lib.ListN.{length, get_or}
+use Rattle.definition.specs.Table.{Table}
+use Rattle.skipping.specs.Passing.{tokens, standing}
+use Rattle.definition.specs.Declarator.{qualifiers_from, qualifiers_here}
+use Rattle.skipping.proofs.Rounds.{said, qualifiers-stop, qualifiers-end, qualifiers-on}
+use Rattle.skipping.proofs.qualifiers_here.Given as goal
+
+abbrev pub invariant-loop-i : goal.invariant-loop-i
+invariant-loop-i l =
+    (ns : List ℕ) (t : Table) → qualifiers_here (tokens l.kinds ns) (standing l.at t) ≡ qualifiers_from (tokens l.kinds ns) (suc (length l.kinds - l.i)) (record { const = l.constant; volatile = l.volatile; restrict = l.restrict }) (standing l.i t)
+
+abbrev pub decreases-loop-i : goal.decreases-loop-i
+decreases-loop-i l = length l.kinds - l.i

@@ -1,0 +1,16 @@
+use borrow.Author.Rules.{rules}
+use native.Mathlib.Omega.{arith}
+use mathlib.Core.Path.{refl, sym, ◌∙◌}
+use Prim.Native.Nat.{ℕ, ◌-◌}
+use lib.ListN.{take}
+use Rattle.definition.specs.Scan.{from}
+use Rattle.spellings.proofs.Steps.{On, on-start, on-next, on-found, on-end}
+use mathlib.Core.Path.{ap}
+use Prim.Native.Nat.{◌+◌, ◌*◌}
+use Rattle.spellings.proofs.walk.Given as goal
+
+abbrev pub invariant-loop-cur : goal.invariant-loop-cur
+invariant-loop-cur l = On l.text (take (l.end - l.at) (from l.text l.at)) l.kinds l.numbers l.links l.count l.heads l.head l.spot l.depth l.cur
+
+abbrev pub decreases-loop-cur : goal.decreases-loop-cur
+decreases-loop-cur l = l.count - l.depth

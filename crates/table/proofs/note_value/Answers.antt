@@ -1,0 +1,5 @@
+use borrow.Author.Rules.{rules}
+use Rattle.table.proofs.note_value.Goals as goal
+
+pub returns : goal.returns
+returns c = rw c.name_slot.ensures.0

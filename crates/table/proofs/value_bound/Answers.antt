@@ -1,0 +1,6 @@
+use borrow.Author.Rules.{rules}
+use mathlib.Core.Path.{◌∙◌}
+use Rattle.table.proofs.value_bound.Goals as goal
+
+pub returns : goal.returns
+returns c = c.kind_at.ensures.is ∙ rw c.name_slot.ensures.0
