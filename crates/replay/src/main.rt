@@ -1,12 +1,15 @@
-#![tactic(auto)]
 // Answers records from standard input: a line `MODEL ENTRY LENGTH`, as many bytes, a line feed. For each a line `answer N`, as many bytes, a line feed.
-ghost use Rattle.std.specs.Prelude.{◌≤◌, length};
+#![tactic(auto)]
+
+ghost use Rattle.std.specs.Prelude.{◌≤◌, length, IfOk};
 
 use encoding::regions::{SIGNEDS, WIDES, WORDS};
-use libc::{STDERR_FILENO, STDIN_FILENO, STDOUT_FILENO};
 use model::Model;
 use printing::{LINE_FEED, put_byte, put_bytes, put_decimal};
 use reports::{listing_buffer, report_declaration, report_unit};
+use std::io;
+use std::io::{Read, Write};
+use streams::read_full;
 
 // One byte more than a text may have: a longer one is refused as such, and the rest of it is passed over.
 const TEXT: usize = Model::MAX_TEXT + 1;
@@ -27,10 +30,10 @@ const NO_BYTE: u8 = 0;
 // A larger number is taken for this one, which is no model's.
 const MOST: usize = u32::MAX as usize;
 
-fn read_byte() -> u8 {
+fn read_byte<R: Read>(input: &mut R) -> io::Result<u8> {
     let mut byte = [NO_BYTE; 1];
-    io::read_full(STDIN_FILENO, &mut byte);
-    byte[0]
+    read_full(input, &mut byte)?;
+    Ok(byte[0])
 }
 
 fn with_digit(value: usize, digit: u8) -> usize
@@ -45,114 +48,138 @@ fn with_digit(value: usize, digit: u8) -> usize
 }
 
 // A number, and the byte after it.
-fn read_number() -> usize
-    ensures { result ≤ 4294967295 }
+fn read_number<R: Read>(input: &mut R) -> io::Result<usize>
+    ensures { IfOk result (λ n. n ≤ 4294967295) }
 {
     let mut value = 0;
     let mut left = MOST;
     while 0 < left {
-        let byte = read_byte();
+        let byte = read_byte(input)?;
         if byte < b'0' {
-            return value;
+            return Ok(value);
         }
         if b'9' < byte {
-            return value;
+            return Ok(value);
         }
         value = with_digit(value, byte - b'0');
         left = left - 1;
     }
-    value
+    Ok(value)
 }
 
 // Passes over bytes.
-fn pass(count: usize) {
+fn pass<R: Read>(input: &mut R, count: usize) -> io::Result<()> {
     let mut part = [0u8; PART];
     let mut left = count;
     while PART < left {
-        if io::read_full(STDIN_FILENO, &mut part) == 0 {
-            return;
+        if read_full(input, &mut part)? == 0 {
+            return Ok(());
         }
         left = left - PART;
     }
-    io::read_full(STDIN_FILENO, &mut part[..left]);
+    read_full(input, &mut part[..left])?;
+    Ok(())
 }
 
 // The text of a record, or the front of one that is too long.
-fn read_text(text: &mut [u8], count: usize) -> usize
-    ensures { result ≤ length text.new }
+fn read_text<R: Read>(input: &mut R, text: &mut [u8], count: usize) -> io::Result<usize>
+    ensures { IfOk result (λ n. n ≤ length text.new) }
 {
     if count <= text.len() {
-        return io::read_full(STDIN_FILENO, &mut text[..count]);
+        return read_full(input, &mut text[..count]);
     }
-    let n = io::read_full(STDIN_FILENO, text);
-    pass(count - n);
-    n
+    let n = read_full(input, text)?;
+    pass(input, count - n)?;
+    Ok(n)
 }
 
 // Writes an answer of so many bytes; false if it did not fit.
-fn write_answer(out: &mut [u8], size: usize) -> bool {
+fn write_answer<W: Write, E: Write>(
+    output: &mut W,
+    errors: &mut E,
+    out: &mut [u8],
+    size: usize,
+) -> io::Result<bool> {
     let end = put_byte(out, size, LINE_FEED);
     let mut line = [0u8; LINE];
     let a = put_bytes(&mut line, 0, b"answer ");
     let b = put_decimal(&mut line, a, size as u64);
     let c = put_byte(&mut line, b, LINE_FEED);
     if LINE < c {
-        return false;
+        return Ok(false);
     }
     if out.len() < end {
-        io::write_all(STDERR_FILENO, b"replay: a listing is too long\n");
-        return false;
+        errors.write_all(b"replay: a listing is too long\n")?;
+        return Ok(false);
     }
-    io::write_all(STDOUT_FILENO, &line[..c]);
-    io::write_all(STDOUT_FILENO, &out[..end])
+    output.write_all(&line[..c])?;
+    output.write_all(&out[..end])?;
+    Ok(true)
 }
 
 // Answers a record; false after the last one.
-fn answer_next(
+fn answer_next<R: Read, W: Write, E: Write>(
+    input: &mut R,
+    output: &mut W,
+    errors: &mut E,
     text: &mut [u8],
     words: &mut [u32],
     wides: &mut [u64],
     signeds: &mut [i64],
     out: &mut [u8],
-) -> bool {
-    let model = read_number() as u32;
-    let entry = read_byte();
+) -> io::Result<bool> {
+    let model = read_number(input)? as u32;
+    let entry = read_byte(input)?;
     if entry == NO_BYTE {
-        return false;
+        return Ok(false);
     }
-    pass(ENTRY_REST);
-    let length = read_number();
-    let n = read_text(text, length);
-    pass(1);
-    if entry == UNIT {
-        let size = report_unit(&text[..n], model, words, wides, signeds, out);
-        return write_answer(out, size);
-    }
-    let size = report_declaration(&text[..n], model, words, wides, signeds, out);
-    write_answer(out, size)
+    pass(input, ENTRY_REST)?;
+    let length = read_number(input)?;
+    let n = read_text(input, text, length)?;
+    pass(input, 1)?;
+    let size = if entry == UNIT {
+        report_unit(&text[..n], model, words, wides, signeds, out)
+    } else {
+        report_declaration(&text[..n], model, words, wides, signeds, out)
+    };
+    write_answer(output, errors, out, size)
 }
 
-fn answer_all(
+fn answer_all<R: Read, W: Write, E: Write>(
+    input: &mut R,
+    output: &mut W,
+    errors: &mut E,
     text: &mut [u8],
     words: &mut [u32],
     wides: &mut [u64],
     signeds: &mut [i64],
     out: &mut [u8],
-) {
-    let mut left = u64::MAX;
-    while 0 < left {
-        if !answer_next(text, words, wides, signeds, out) {
-            return;
+) -> io::Result<()> {
+    for _ in 0..u64::MAX {
+        if !answer_next(input, output, errors, text, words, wides, signeds, out)? {
+            return Ok(());
         }
-        left = left - 1;
     }
+    Ok(())
 }
 
-fn main() {
+fn main(rt: HostRuntime) -> io::Result<()> {
     let mut text = [0u8; TEXT];
     let mut words = [0u32; WORDS];
     let mut wides = [0u64; WIDES];
     let mut signeds = [0i64; SIGNEDS];
     let mut out = listing_buffer();
-    answer_all(&mut text, &mut words, &mut wides, &mut signeds, &mut out);
+    let mut input = rt.stdin();
+    let mut output = rt.stdout();
+    let mut errors = rt.stderr();
+    answer_all(
+        &mut input,
+        &mut output,
+        &mut errors,
+        &mut text,
+        &mut words,
+        &mut wides,
+        &mut signeds,
+        &mut out,
+    )
 }
