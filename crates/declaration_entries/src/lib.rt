@@ -14,7 +14,7 @@ use encoding::storage::Storage;
 use encoding::token_kinds::{END, SEMICOLON};
 use named_rows::{Found, typedef_row};
 use table::{
-    Cursor, Declaration, Move, Numbers, Step, kind_at, push_declaration, push_row, row_target,
+    Cursor, Declaration, Move, Numbers, Step, kind_at, push_declared, push_row, row_target,
 };
 
 // The row of a typedef. The same definition again is no change; another type is refused at the declarator's place.
@@ -87,7 +87,7 @@ pub fn declare(w: &mut [u32], d: &mut [u64], v: &mut [i64], c: Cursor, x: Declar
     requires { Held c w.old d.old v.old }
     ensures { Moves (declare (storage x.storage) x.ty x.name) c w.old d.old v.old (move result) w.new d.new v.new }
 {
-    let r = push_declaration(w, d, v, c, x);
+    let r = push_declared(w, d, v, c, x);
     match r {
         Step::Done(e, _) => Move::To(e),
         Step::Refused(k, p) => Move::Refused(k, p),

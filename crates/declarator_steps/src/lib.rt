@@ -1,11 +1,11 @@
 #![tactic(auto)]
 // The pending steps of a declarator: "at most 256 stars, bounds and parameter lists in one declarator".
-ghost use Rattle.std.specs.Prelude.{◌≡◌, ◌+◌, ◌*◌, ◌<◌, leb};
+ghost use Rattle.std.specs.Prelude.{◌≡◌, ◌∷◌, ◌+◌, ◌*◌, ◌<◌, leb};
 ghost use Rattle.std.proofs.Math.Option.{none, some};
 ghost use Rattle.definition.specs.Limit.{max_steps};
 ghost use Rattle.definition.specs.Row.{bit, qualifier_bits};
 ghost use Rattle.definition.specs.Grammar.{array_step, function_step};
-ghost use Rattle.declarator_steps.specs.Pending.{step_of, step_in, kept, shape_step, pending, no_steps, with_step, with_star, released, Room, Waiting};
+ghost use Rattle.declarator_steps.specs.Pending.{qualifiers_of, step_of, step_in, kept, shape_step, steps_from, pending, none_pending, no_steps, with_step, with_star, released, Room, Waiting};
 
 use model::Model;
 
@@ -54,7 +54,8 @@ pub struct Steps {
 }
 
 pub fn empty() -> Steps
-    ensures { result ≡ no_steps }
+    ensures kept { result ≡ no_steps }
+    ensures means { pending result ≡ none_pending }
 {
     Steps {
         kinds: [0; Model::MAX_STEPS],
@@ -85,13 +86,15 @@ fn bit(on: bool, value: u64) -> u64
 
 // The qualifiers as one number.
 pub fn qualifier_bits(constant: bool, volatile: bool, restrict: bool) -> u64
-    ensures { result ≡ qualifier_bits (record { const = constant; volatile = volatile; restrict = restrict }) }
+    ensures kept { result ≡ qualifier_bits (record { const = constant; volatile = volatile; restrict = restrict }) }
+    ensures means { qualifiers_of result ≡ record { const = constant; volatile = volatile; restrict = restrict } }
 {
     bit(constant, CONST) + bit(volatile, VOLATILE) + bit(restrict, RESTRICT)
 }
 
 pub fn unbounded() -> Step
-    ensures { result ≡ kept (array_step none) }
+    ensures kept { result ≡ kept (array_step none) }
+    ensures means { step_of result ≡ array_step none }
 {
     Step {
         kind: ARRAY,
@@ -100,7 +103,8 @@ pub fn unbounded() -> Step
 }
 
 pub fn bounded(bound: u64) -> Step
-    ensures { result ≡ kept (array_step (some bound)) }
+    ensures kept { result ≡ kept (array_step (some bound)) }
+    ensures means { step_of result ≡ array_step (some bound) }
 {
     Step {
         kind: BOUNDED,
@@ -110,7 +114,8 @@ pub fn bounded(bound: u64) -> Step
 
 // A function whose parameters stand from entry `first` on.
 pub fn function(varargs: bool, first: u32, count: u32) -> Step
-    ensures { result ≡ kept (function_step varargs (record { first = first; count = count })) }
+    ensures kept { result ≡ kept (function_step varargs (record { first = first; count = count })) }
+    ensures means { step_of result ≡ function_step varargs (record { first = first; count = count }) }
 {
     let operand = FIRST_UNIT * (first as u64) + (count as u64);
     if varargs {
@@ -159,7 +164,8 @@ pub fn step_at<'a>(
     i: usize,
 ) -> Step
     requires { i < max_steps }
-    ensures { result ≡ step_in kinds.now operands.now i }
+    ensures kept { result ≡ step_in kinds.now operands.now i }
+    ensures means { steps_from kinds.now operands.now (i + 1) ≡ step_of result ∷ steps_from kinds.now operands.now i }
 {
     Step {
         kind: kinds[i],

@@ -5,7 +5,7 @@ ghost use Rattle.std.specs.Prelude.{◌≡◌, ℕ, ◌+◌, ◌*◌, ◌/◌, m
 ghost use Rattle.definition.specs.Table.{Member, Table};
 ghost use Rattle.definition.specs.Model.{Model};
 ghost use Rattle.definition.specs.Types.{width_number};
-ghost use Rattle.definition.specs.Layout.{round_up, within, advanced, located, plain_member, zero_field, field_at, bit_field, in_struct, in_union, bytes_taken, record_size};
+ghost use Rattle.definition.specs.Layout.{empty_body, round_up, within, advanced, located, plain_member, zero_field, field_at, bit_field, in_struct, in_union, bytes_taken, record_size};
 ghost use Rattle.layout_arithmetic.specs.Outcome.{laid_of, none_laid, exact, placed, sized};
 
 const BYTE: u64 = 8;
@@ -43,7 +43,8 @@ pub enum Sized {
 }
 
 pub fn empty() -> Laid
-    ensures { result ≡ none_laid }
+    ensures value { result ≡ none_laid }
+    ensures means { laid_of result ≡ empty_body }
 {
     Laid {
         taken: 0,

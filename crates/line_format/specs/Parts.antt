@@ -3,8 +3,9 @@ use Rattle.std.specs.Prelude.{Bool, true, false, List, [], ◌∷◌, ℕ, zero,
 use Rattle.std.proofs.Math.Option.{Option, none, some}
 use Rattle.definition.specs.Text.{Bytes, bytes}
 use Rattle.definition.specs.RowKind.{void_kind, int_kind, float_kind, bool_kind, pointer_kind, array_kind, struct_kind, union_kind, enum_kind, function_kind, typedef_kind, qualified_kind}
-use Rattle.definition.specs.Table.{Member, Value, Parameter}
+use Rattle.definition.specs.Table.{Member, Value, Parameter, Declaration}
 use Rattle.definition.specs.Listing.{decimal, dash, or_dash, name_word, sign_word, dots, letters}
+use Rattle.encoding.specs.Storage.{storage_numbered}
 use Rattle.words.specs.Meaning.{qualifiers_in}
 use Rattle.size_align.specs.declared.Size.{Size}
 use Rattle.size_align.specs.declared.Size.TheVariants.{Known, Big, Unknown}
@@ -98,3 +99,6 @@ value_of value name = record { row = 0; name = name; value = value }
 
 abbrev pub parameter_of : ℕ → ℕ → Parameter
 parameter_of type name = record { row = 0; type = type; name = name }
+
+abbrev pub declaration_of : ℕ → ℕ → ℕ → Declaration
+declaration_of storage type name = record { storage = storage_numbered storage; type = type; name = name }

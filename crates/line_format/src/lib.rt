@@ -9,7 +9,7 @@ ghost use Rattle.encoding.specs.Storage.{storage};
 ghost use Rattle.table.specs.Reply.{declaration};
 ghost use Rattle.size_align.specs.Measure.{align};
 ghost use Rattle.printing.specs.Written.{Wrote, WroteWords};
-ghost use Rattle.line_format.specs.Parts.{is_set, some_if, byte_if, width_of, size_bytes, own_kind, named_kind, kind_bytes, own_details, named_details, details_of, member_of, value_of, parameter_of};
+ghost use Rattle.line_format.specs.Parts.{is_set, some_if, byte_if, width_of, size_bytes, own_kind, named_kind, kind_bytes, own_details, named_details, details_of, member_of, value_of, parameter_of, declaration_of};
 
 use encoding::row_kinds::{
     ARRAY_KIND, BOOL_KIND, ENUM_KIND, FLOAT_KIND, FUNCTION_KIND, INT_KIND, POINTER_KIND,
@@ -279,7 +279,15 @@ pub fn put_param(out: &mut [u8], n: usize, text: &[u8], ty: u32, name: u32) -> u
     put_byte(out, c, LINE_FEED)
 }
 
-pub fn put_decl(out: &mut [u8], n: usize, text: &[u8], x: Declaration) -> usize
+// The line of a declaration's numbers.
+pub fn put_decl(out: &mut [u8], n: usize, text: &[u8], storage: u32, ty: u32, name: u32) -> usize
+    ensures { Wrote (decl_line text.now (declaration_of storage ty name)) out.old n out.new result }
+{
+    let storage = Storage::numbered(storage);
+    put_declaration(out, n, text, Declaration { storage, ty, name })
+}
+
+pub fn put_declaration(out: &mut [u8], n: usize, text: &[u8], x: Declaration) -> usize
     ensures { Wrote (decl_line text.now (declaration x)) out.old n out.new result }
 {
     let a = put_bytes(out, n, b"decl");

@@ -2,16 +2,17 @@
 // The lines of a listing, for whatever table the lent slices hold: one function for each kind of line.
 ghost use Rattle.std.specs.Prelude.{◌≡◌, [], ◌∷◌, length};
 ghost use Rattle.definition.specs.Text.{bytes};
-ghost use Rattle.definition.specs.Table.{row_at};
+ghost use Rattle.definition.specs.Table.{row_at, storage_number};
 ghost use Rattle.definition.specs.Size.{size_of};
 ghost use Rattle.definition.specs.Align.{align_of};
 ghost use Rattle.definition.specs.Listing.{decimal, or_dash, size_word, parted, kind_word, details, type_line, member_line, value_line, param_line, decl_line};
 ghost use Rattle.table.specs.Held.{member_at, value_at, parameter_at, declaration_at, InWords, InWides, InSigneds};
+ghost use Rattle.table.specs.Reply.{WordIs};
 ghost use Rattle.model.specs.Meaning.{model};
 ghost use Rattle.printing.specs.Written.{words};
 ghost use Rattle.lines.specs.Lines.{WroteAs};
 
-use line_format::{put_decl, put_details, put_head, put_member, put_param, put_value};
+use line_format::{put_declaration, put_details, put_head, put_member, put_param, put_value};
 use model::Model;
 use printing::{LINE_FEED, put_byte};
 use size_align::{align_of, size_of};
@@ -50,11 +51,34 @@ pub fn param_line(out: &mut [u8], n: usize, text: &[u8], w: &[u32], i: usize) ->
     put_param(out, n, text, ty, name)
 }
 
+// The columns of declarations.
+pub fn declaration_storage(w: &[u32], i: usize) -> u32
+    ensures { WordIs (λ t. storage_number (declaration_at t i).storage) w.now result }
+{
+    let found = declaration_at(w, i);
+    let storage = found.storage;
+    storage.number()
+}
+
+pub fn declaration_type(w: &[u32], i: usize) -> u32
+    ensures { WordIs (λ t. (declaration_at t i).type) w.now result }
+{
+    let found = declaration_at(w, i);
+    found.ty
+}
+
+pub fn declaration_name(w: &[u32], i: usize) -> u32
+    ensures { WordIs (λ t. (declaration_at t i).name) w.now result }
+{
+    let found = declaration_at(w, i);
+    found.name
+}
+
 pub fn decl_line(out: &mut [u8], n: usize, text: &[u8], w: &[u32], i: usize) -> usize
     ensures { WroteAs (λ t. InWords t w.now) (λ t. decl_line text.now (declaration_at t i)) out.old n out.new result }
 {
     let x = declaration_at(w, i);
-    put_decl(out, n, text, x)
+    put_declaration(out, n, text, x)
 }
 
 // ---- rows

@@ -2,7 +2,7 @@
 use Rattle.std.specs.Prelude.{List, ℕ, ℤ, set}
 use Rattle.std.proofs.Math.Option.{Option}
 use Rattle.definition.specs.Row.{Row}
-use Rattle.definition.specs.Table.{Table, Reads, with_rows, with_members, with_values, with_parameters, push_member, push_value, push_parameter}
+use Rattle.definition.specs.Table.{Table, Storage, Reads, with_rows, with_members, with_values, with_parameters, push_member, push_value, push_parameter, push_declaration}
 use Rattle.definition.specs.Layout.{located}
 use Rattle.definition.specs.Composite.{with_row}
 use Rattle.definition.specs.Enumeration as Enumeration
@@ -18,6 +18,9 @@ value_pushed row name value = push_value (record { row = row; name = name; value
 
 abbrev pub parameter_pushed : ℕ → ℕ → ℕ → Reads ℕ
 parameter_pushed row type name = push_parameter (record { row = row; type = type; name = name })
+
+abbrev pub declaration_pushed : ℕ → ℕ → Storage → Reads ℕ
+declaration_pushed type name storage = push_declaration (record { storage = storage; type = type; name = name })
 
 -- nothing changes past the last
 abbrev pub row_set : ℕ → Row → Table → Table

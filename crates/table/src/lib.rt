@@ -15,14 +15,14 @@ ghost use Rattle.std.specs.Prelude.{◌≡◌, ◌+◌, ◌-◌, ◌*◌, ◌≤
 ghost use Rattle.definition.specs.Limit.{max_rows};
 ghost use Rattle.definition.specs.RowKind.{typedef_kind};
 ghost use Rattle.definition.specs.Row.{kind_of, target_of, flags_of, row_name, span_of, extent_of};
-ghost use Rattle.definition.specs.Table.{row_at, push_row, push_declaration};
+ghost use Rattle.definition.specs.Table.{row_at, storage_number, push_row, push_declaration};
 ghost use Rattle.definition.specs.Types.{width_number};
 ghost use Rattle.definition.specs.Lent.{row_words, member_words, member_wides, value_words, parameter_words, declaration_words};
 ghost use Rattle.definition.specs.Region.{words_length, wides_length, names_at};
 ghost use Rattle.table.specs.Held.{half_of, indexed, bound_for, value_slot, moved_to, member_at, value_at, parameter_at, declaration_at, Held, Room};
 ghost use Rattle.table.specs.Reply.{step, numbers, declaration, Does, DoesAs, ChangesAs, WordIs, WideIs, SignedIs, DeclarationIs, Peek};
-ghost use Rattle.table.specs.Noting.{Sooner, Lowered, NotesRow, NotesTop, first_named};
-ghost use Rattle.table.specs.Store.{member_pushed, value_pushed, parameter_pushed, row_set, member_row_set, member_place_set, value_row_set, parameter_row_set, ChangesWords, ChangesWides};
+ghost use Rattle.table.specs.Noting.{Sooner, Lowered, NotesRow, NotesTop, first_named, NoneBefore};
+ghost use Rattle.table.specs.Store.{member_pushed, value_pushed, parameter_pushed, declaration_pushed, row_set, member_row_set, member_place_set, value_row_set, parameter_row_set, ChangesWords, ChangesWides};
 
 use encoding::refusals::LIMIT_PASSED;
 use encoding::regions::{
@@ -348,7 +348,7 @@ pub fn declaration_at(w: &[u32], i: usize) -> Declaration
 // ---- the index
 
 // Where a name's two numbers stand in the index.
-fn name_slot(name: u64) -> usize
+pub fn name_slot(name: u64) -> usize
     ensures { (result ≡ 2 * half_of name) × (half_of name < indexed) }
 {
     2 * ((name / 2 % HALVES % INDEXED) as usize)
@@ -436,10 +436,11 @@ pub fn value_bound(w: &[u32], name: u64) -> u32
     kind_at(w, INDEX_AT + name_slot(name))
 }
 
-// Where a search for a row of a kind and a name begins: no row before has both (`none_before`).
+// Where a search for a row of a kind and a name begins: no row before has both.
 pub fn first_named(w: &[u32], kind: u32, name: u32) -> usize
     requires { length w.now ≡ words_length }
-    ensures { result ≡ first_named kind name w.now }
+    ensures at { result ≡ first_named kind name w.now }
+    ensures none_before { NoneBefore kind name w.now result }
 {
     if name == 0 {
         return 0;
@@ -605,21 +606,22 @@ pub fn push_declaration(
     d: &mut [u64],
     v: &mut [i64],
     c: Cursor,
-    x: Declaration,
+    storage: u32,
+    ty: u32,
+    name: u32,
 ) -> Step
     requires { Held c w.old d.old v.old }
-    ensures { Does (push_declaration (declaration x)) c w.old d.old v.old (step result) w.new d.new v.new }
+    ensures { DoesAs storage_number storage (declaration_pushed ty name) c w.old d.old v.old (step result) w.new d.new v.new }
 {
     let n = c.declarations;
     if Model::MAX_DECLARATIONS <= n {
         return Step::Refused(LIMIT_PASSED, c.at);
     }
     w[LAST_DECLARATION] = n as u32;
-    let b = DECLARATIONS_AT + DECLARATION_COLUMNS * n;
-    let storage = x.storage;
-    w[b] = storage.number();
-    w[b + 1] = x.ty;
-    w[b + 2] = x.name;
+    let base = DECLARATIONS_AT + DECLARATION_COLUMNS * n;
+    w[base] = storage;
+    w[base + 1] = ty;
+    w[base + 2] = name;
     Step::Done(
         Cursor {
             at: c.at,
@@ -631,6 +633,15 @@ pub fn push_declaration(
         },
         n as u32,
     )
+}
+
+// The same for a declaration of the code.
+pub fn push_declared(w: &mut [u32], d: &mut [u64], v: &mut [i64], c: Cursor, x: Declaration) -> Step
+    requires { Held c w.old d.old v.old }
+    ensures { Does (push_declaration (declaration x)) c w.old d.old v.old (step result) w.new d.new v.new }
+{
+    let storage = x.storage;
+    push_declaration(w, d, v, c, storage.number(), x.ty, x.name)
 }
 
 // A row put in the place of row n, where there is one.

@@ -10,7 +10,6 @@ use Rattle.table.specs.Held.{state, Encodes, Held}
 use Rattle.table.specs.Reply.{step}
 use Rattle.table.proofs.Shown.{call, fail, got!, held_on}
 use Rattle.declarator_steps.specs.Pending.{steps_from}
-use Rattle.declarator_steps.proofs.Views.{step-next}
 use Rattle.derived_types.proofs.Derived.{Applying, applies, round, finished}
 use Rattle.derived_types.proofs.apply.Given as goal
 

@@ -10,13 +10,12 @@ use Rattle.table.specs.Held.{Encodes, member_at}
 use Rattle.table.specs.Reply.{bad}
 use Rattle.table.proofs.Shown.{left}
 use Rattle.model.specs.Meaning.{model}
-use Rattle.layout_arithmetic.specs.Outcome.{laid_of}
 use Rattle.layout.specs.Lays.{place, placed_from, stop}
 use Rattle.layout.proofs.Laid.{Going, starts, finished, untouched, passes, stopped, puts}
 use Rattle.layout.proofs.place_all.Goals as goal
 
 pub loop-i-init : goal.loop-i-init
-loop-i-init c = (λ t v h. starts _ (ap laid_of c.empty-l.ensures) h, refl)
+loop-i-init c = (λ t v h. starts _ c.empty-l.ensures.means h, refl)
 
 pub overflow_add-i : goal.overflow_add-i
 overflow_add-i c = omega (arith, c.loop-i-test.true, c.requires.1.members)

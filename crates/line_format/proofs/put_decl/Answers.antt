@@ -1,9 +1,8 @@
-use borrow.Author.Rules.{rules}
-use Rattle.definition.specs.Text.{bytes}
+use mathlib.Core.Path.{ap}
+use Rattle.definition.specs.Table.{Storage}
 use Rattle.definition.specs.Listing.{decl_line}
-use Rattle.printing.proofs.Writing.{a-line, a_word, last_word}
+use Rattle.printing.proofs.Writing.{as_is}
 use Rattle.line_format.proofs.put_decl.Goals as goal
 
 pub returns : goal.returns
-unfolding bytes decl_line
-returns c = a-line c.put_bytes-a.ensures (a_word c.next_storage-b.ensures (a_word c.next_decimal-c.ensures (last_word c.next_name-d.ensures))) c.put_byte.ensures
+returns c = as_is c.put_declaration.ensures (ap (λ (s : Storage). decl_line c.args.text.now (record { storage = s; type = c.args.ty; name = c.args.name })) c.numbered-storage.ensures)

@@ -5,4 +5,4 @@ use Rattle.printing.proofs.Writing.{same_length as same-long, as_is}
 use Rattle.lines.proofs.decl_line.Goals as goal
 
 pub returns : goal.returns
-returns c = record { kept = same-long c.put_decl.ensures; of = λ t h. as_is c.put_decl.ensures (ap (decl_line _) (c.declaration_at-x.ensures.of t h)) }
+returns c = record { kept = same-long c.put_declaration.ensures; of = λ t h. as_is c.put_declaration.ensures (ap (decl_line _) (c.declaration_at-x.ensures.of t h)) }

@@ -6,7 +6,6 @@ use lib.ListN.{length, drop}
 use Rattle.definition.specs.Table.{Table}
 use Rattle.definition.specs.Types.{row_named}
 use Rattle.table.specs.Held.{InWords, Indexed}
-use Rattle.table.proofs.Index.{none_before}
 use Rattle.named_rows.proofs.Searches.{first_row, named_test, named-is, not_named, look-yes, look_no, look-end, look_skip, all_there}
 use Rattle.named_rows.proofs.row_named.Goals as goal
 
@@ -14,7 +13,7 @@ pub returns-then-w-ne-WORDS : goal.returns-then-w-ne-WORDS
 returns-then-w-ne-WORDS c = record { of = λ t h x k. absurd (all_there h c.if-w-ne-WORDS.true) }
 
 pub loop-i-init : goal.loop-i-init
-loop-i-init c = λ t h x e. named-is _ _ 0 t.rows ∙ look_skip (named_test _ _) t.rows _ (λ j p q. not_named _ _ j _ ((none_before _ _ _ c.first_named-i.ensures).of t h x j p q))
+loop-i-init c = λ t h x e. named-is _ _ 0 t.rows ∙ look_skip (named_test _ _) t.rows _ (λ j p q. not_named _ _ j _ (c.first_named-i.ensures.none_before.of t h x j p q))
 
 pub is_named-requires : goal.is_named-requires
 is_named-requires c = record { i_lt_max_rows = omega (arith, c.requires.rows); members_at_in_bounds = omega (arith, c.if-w-ne-WORDS.false) }

@@ -6,7 +6,6 @@ use lib.ListN.{length, drop}
 use Rattle.definition.specs.Table.{Table}
 use Rattle.definition.specs.Types.{row_named}
 use Rattle.table.specs.Held.{InWords, Indexed}
-use Rattle.table.proofs.Index.{none_before}
 use Rattle.named_rows.proofs.Searches.{first_row, named_test, named-is, not_named, look-yes, look_no, look-end, look_skip, all_there}
 use Rattle.named_rows.proofs.row_named.Given as goal
 

@@ -4,7 +4,6 @@ use mathlib.Core.Path.{refl, sym, ap}
 use Prim.Native.Nat.{◌+◌}
 use Rattle.definition.specs.Answer.{got}
 use Rattle.definition.specs.Declarator.{parameters_end}
-use Rattle.declarator_steps.proofs.Views.{function-kept}
 use Rattle.table.specs.Held.{state, moved_to}
 use Rattle.table.proofs.Branch.{by}
 use Rattle.table.proofs.Shown.{got-at, no! }
@@ -20,4 +19,4 @@ overflow_add-at c = omega (arith, there c.kind_at.ensures c.if-kind_at-ne-CLOSE_
 
 pub returns : goal.returns
 unfolding parameters_end
-returns c = record { with = λ ns m next w d v. record { run = λ t h. ate _ _ _ c.kind_at.ensures c.if-kind_at-ne-CLOSE_PAREN.false (by (ap (λ z. got (z, state (moved_to c.args.c (c.args.c.at + 1)) t)) (sym (function-kept _ _ (omega arith) c.function.ensures))) (got-at c.moved.ensures h)) } }
+returns c = record { with = λ ns m next w d v. record { run = λ t h. ate _ _ _ c.kind_at.ensures c.if-kind_at-ne-CLOSE_PAREN.false (by (ap (λ z. got (z, state (moved_to c.args.c (c.args.c.at + 1)) t)) (sym c.function.ensures.means)) (got-at c.moved.ensures h)) } }
