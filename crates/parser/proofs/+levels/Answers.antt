@@ -262,19 +262,19 @@ pub declared_type-returns-then-is_plain_pointer-room : goal.declared_type-return
 declared_type-returns-then-is_plain_pointer-room t c = c.pointer_type.ensures.of _ _ (has_levels _ c.is_plain_pointer.ensures c.if-is_plain_pointer-room.true)
 
 pub declared_type-declarator-t-requires : goal.declared_type-declarator-t-requires
-declared_type-declarator-t-requires t c = (omega (arith, c.decreases), (c.requires.held, (c.requires.readable, starts-empty _ c.empty.ensures)))
+declared_type-declarator-t-requires t c = (omega (arith, c.decreases), (c.requires.held, (c.requires.readable, starts-empty _ c.empty.ensures.kept)))
 
 pub declared_type-apply-r-requires : goal.declared_type-apply-r-requires
 declared_type-apply-r-requires t c = (declared_held c.declarator-t.ensures c.in-Done.is c.requires.held, declared_few c.declarator-t.ensures c.in-Done.is)
 
 pub declared_type-returns-in-Done-r : goal.declared_type-returns-in-Done-r
-declared_type-returns-in-Done-r t c = typed-done _ _ c.empty.ensures c.declarator-t.ensures c.in-Done.is c.apply-r.ensures c.in-Done-r.is
+declared_type-returns-in-Done-r t c = typed-done _ _ c.empty.ensures.kept c.declarator-t.ensures c.in-Done.is c.apply-r.ensures c.in-Done-r.is
 
 pub declared_type-returns-in-Refused-r : goal.declared_type-returns-in-Refused-r
-declared_type-returns-in-Refused-r t c = typed-refused _ _ c.empty.ensures c.declarator-t.ensures c.in-Done.is c.apply-r.ensures c.in-Refused-r.is
+declared_type-returns-in-Refused-r t c = typed-refused _ _ c.empty.ensures.kept c.declarator-t.ensures c.in-Done.is c.apply-r.ensures c.in-Refused-r.is
 
 pub declared_type-returns-in-Refused : goal.declared_type-returns-in-Refused
-declared_type-returns-in-Refused t c = typed-stop _ _ c.empty.ensures c.declarator-t.ensures c.in-Refused.is
+declared_type-returns-in-Refused t c = typed-stop _ _ c.empty.ensures.kept c.declarator-t.ensures c.in-Refused.is
 
 pub direct-returns-then-room-eq0 : goal.direct-returns-then-room-eq0
 direct-returns-then-room-eq0 t c = stops (ap (λ x. x.answer) c.new.ensures) (λ b h. by (no_direct _ _ _ _ c.if-room-eq0.true) (no! h refl))
@@ -701,11 +701,11 @@ suffix-array_bound-b-requires t c = c.requires.held.room
 
 pub suffix-returns-in-Of : goal.suffix-returns-in-Of
 unfolding suffix_step
-suffix-returns-in-Of t c = record { run = λ t₁ h. eq- _ _ _ _ c.if-kind-eq-OPEN_PAREN.false (call _ ((c.array_bound-b.ensures.with _ _).run t₁ h) (ap bound c.in-Of.is) (λ t₂ h₂. got_as (array-kept (some _) c.bounded.ensures) h₂)) }
+suffix-returns-in-Of t c = record { run = λ t₁ h. eq- _ _ _ _ c.if-kind-eq-OPEN_PAREN.false (call _ ((c.array_bound-b.ensures.with _ _).run t₁ h) (ap bound c.in-Of.is) (λ t₂ h₂. got_as (array-kept (some _) c.bounded.ensures.kept) h₂)) }
 
 pub suffix-returns-in-Open : goal.suffix-returns-in-Open
 unfolding suffix_step
-suffix-returns-in-Open t c = record { run = λ t₁ h. eq- _ _ _ _ c.if-kind-eq-OPEN_PAREN.false (call _ ((c.array_bound-b.ensures.with _ _).run t₁ h) (ap bound c.in-Open.is) (λ t₂ h₂. got_as (array-kept none c.unbounded.ensures) h₂)) }
+suffix-returns-in-Open t c = record { run = λ t₁ h. eq- _ _ _ _ c.if-kind-eq-OPEN_PAREN.false (call _ ((c.array_bound-b.ensures.with _ _).run t₁ h) (ap bound c.in-Open.is) (λ t₂ h₂. got_as (array-kept none c.unbounded.ensures.kept) h₂)) }
 
 pub suffix-returns-in-Refused : goal.suffix-returns-in-Refused
 unfolding suffix_step
