@@ -1,6 +1,6 @@
 /* The table of a C header: sizes of its types, places of its members, values of its enums.
  *
- * Link target/staticlib/librecordtable_c.a, which `rt staticlib recordtable_c` builds (x86-64 Linux).
+ * Link crates/recordtable_c/out/librecordtable_c.a, which `rt lib` in crates/recordtable_c builds (x86-64 Linux).
  *
  * Every function takes slices as a pointer and a count of elements. What a caller must see to:
  *   - each pointer is not null, also where the count is 0, is aligned for its element, and that many elements can be read there and, but for

@@ -20,7 +20,7 @@ fn main() {
     println!("cargo:rerun-if-changed={}", archive.display());
     if !archive.is_file() {
         stop(&format!(
-            "there is no {}.\nBuild it in the repository's folder by\n\n    rt staticlib recordtable_c\n\n\
+            "there is no {}.\nBuild it in the repository's folder crates/recordtable_c by\n\n    rt lib\n\n\
              or name the folder that holds {ARCHIVE} by the environment variable {FOLDER}.",
             archive.display()
         ));
@@ -32,7 +32,7 @@ fn main() {
 fn folder() -> PathBuf {
     match env::var_os(FOLDER) {
         Some(named) => PathBuf::from(named),
-        None => Path::new(env!("CARGO_MANIFEST_DIR")).join("../../target/staticlib"),
+        None => Path::new(env!("CARGO_MANIFEST_DIR")).join("../../crates/recordtable_c/out"),
     }
 }
 

@@ -58,6 +58,10 @@ function pred(a) {
   return natural(a - 1n);
 }
 
+const bitAnd = (a, b) => natural(BigInt(a) & BigInt(b));
+const bitOr = (a, b) => natural(BigInt(a) | BigInt(b));
+const bitXor = (a, b) => natural(BigInt(a) ^ BigInt(b));
+
 const min = (a, b) => (a <= b ? a : b);
 const max = (a, b) => (a <= b ? b : a);
 const compare = (a, b) => (a < b ? k0 : a === b ? k1 : k2);
@@ -134,7 +138,7 @@ function drop(count, list) {
   return count < cells.length ? cells[count] : NIL;
 }
 
-function getD(list, index, otherwise) {
+function getOr(list, index, otherwise) {
   const cell = drop(index, list);
   return cell === NIL ? otherwise : cell.head;
 }

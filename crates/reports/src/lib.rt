@@ -1,7 +1,7 @@
 #![tactic(auto)]
 // What is printed of a text, written into a lent buffer: the listing of an accepted table, or the line of a refusal.
 // What is past the end of the buffer is counted and not written.
-ghost use Rattle.std.specs.Prelude.{length, ◌≡◌, replicate};
+ghost use Rattle.std.specs.Prelude.{◌≡◌, replicate};
 ghost use Rattle.definition.specs.Model.{model_of};
 ghost use Rattle.definition.specs.Entry.{outcome, wholeHeader, singleDeclaration};
 ghost use Rattle.definition.specs.Lent.{long_enough, left_in};
@@ -23,8 +23,7 @@ pub const LISTING: usize = 1048576;
 
 // A buffer for a listing, of zeros.
 pub fn listing_buffer() -> [u8; LISTING]
-    ensures zeros { result ≡ replicate buffer_length 0 }
-    ensures long { 1048576 ≡ length result }
+    ensures { result ≡ replicate buffer_length 0 }
 {
     [0; LISTING]
 }

@@ -17,7 +17,7 @@ def modules_of(source, crates, crate):
     for file in sorted(folder.rglob("*.antt")):
         parts = file.relative_to(folder).with_suffix("").parts
         if parts[-1] != "Lib":
-            yield source.module([f"Rattle·{crate}·specs", "specs", *parts])
+            yield source.module(["Rattle", crate, "specs", *parts])
 
 
 def is_proved_by_computing(function):
@@ -42,7 +42,7 @@ def sides(lowerer, e, names):
         case syntax.Product():
             for item in e.items:
                 yield from sides(lowerer, item, names)
-        case syntax.Apply(function=syntax.Name(text="_≡_"), arguments=[left, right]):
+        case syntax.Apply(function=syntax.Name(text="◌≡◌"), arguments=[left, right]):
             yield lowerer.term(left, names), lowerer.term(right, names)
         case syntax.Apply(function=syntax.Name(text="T"), arguments=[test]):
             yield lowerer.term(test, names), core.Construct(natives.TRUE, [])

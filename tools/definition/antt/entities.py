@@ -14,9 +14,9 @@ class Section:
 
 @dataclass(eq=False)
 class Opened:
-    """A field of t, after `open R t using (..)`: t's tokens begin behind R."""
+    """A field of t, after `open t use {..}`: where t's tokens stand."""
 
-    record: int
+    start: int
     end: int
     field: str
 
@@ -27,11 +27,11 @@ class Function:
     name: str
     sections: tuple  # the blocks around it, the outermost first
     signature: tuple  # the tokens of its type, as (start, end)
-    marks: frozenset = frozenset()  # abbrev, unfoldable, pub, axiom
+    marks: frozenset = frozenset()  # abbrev, unfoldable, pattern, pub, axiom
     clauses: list = field(default_factory=list)  # each (start, end) in the module's tokens
     where: str = ""
     erased: object = None  # whether it gives a type or a proof, once that is known
-    opened: object = None  # of a name that `open R t using (..)` brings: an Opened
+    opened: object = None  # of a name that `open t use {..}` brings: an Opened
 
 
 @dataclass(eq=False)

@@ -20,7 +20,7 @@ INLINE = {"eqb": "===", "leb": "<=", "ltb": "<"}
 
 def mangled(name):
     """A name of antt as a JavaScript name: what JavaScript does not allow is spelled by its code."""
-    return re.sub(r"[^A-Za-z0-9]", lambda m: "_" if m[0] in "_-.·" else f"${ord(m[0]):x}", name)
+    return re.sub(r"[^A-Za-z0-9]", lambda m: "_" if m[0] in "_-." else f"${ord(m[0]):x}", name)
 
 
 class Tags:

@@ -10,9 +10,10 @@ from dataclasses import dataclass, field
 from .errors import AnttError
 
 NO_NAME = set('(){}.;,@"«»')
+PLACE = "◌"  # in an operator's name, a place for an operand
 RESERVED = set(
-    "data record deriving module where use mod pub package using open as unfoldable abbrev axiom unfold unfolding ruleset mutual "
-    "infix infixl infixr elim let in do λ ∀ Type 𝕀 𝔽 coe fcoe tcoe hcom com V vin vproj inS outS ∨ ∧ [ ] | = : → ← ↦ ×".split()
+    "data record deriving module where use mod pub package open as unfoldable abbrev axiom unfold unfolding ruleset mutual "
+    "infix infixl infixr elim let in do λ ∀ Type 𝕀 𝔽 coe fcoe tcoe hcom com ∨ ∧ [ ] | = : → ← ↦ × _".split()
 )
 NUMERAL = re.compile(r"0x[0-9a-fA-F_]+$|0o[0-7_]+$|0b[01_]+$|[0-9][0-9_]*$")
 ESCAPES = {"n": "\n", "t": "\t", "r": "\r", "0": "\0", "\\": "\\", '"': '"', "'": "'"}
@@ -45,8 +46,8 @@ def is_name_character(c):
 
 
 def unescaped(name):
-    """`«x»` is x. What would mean something else without its marks keeps them: a reserved word, a name with `_`."""
-    is_plain = all(is_name_character(c) and c != "_" for c in name) and name not in RESERVED and not NUMERAL.match(name)
+    """`«x»` is x. What would mean something else without its marks keeps them: a reserved word, a numeral."""
+    is_plain = all(is_name_character(c) and c != PLACE for c in name) and name not in RESERVED and not NUMERAL.match(name)
     return name if name and is_plain else f"«{name}»"
 
 
@@ -148,10 +149,10 @@ class Lexer:
         return chr(int((coded[1] or coded[2]).replace("_", ""), 16))
 
     def dot(self):
-        """A dot before a name is a projection (tight dots are part of a path and were read with it)."""
-        column = self.column()
+        """A dot right behind `)` and before a name is a projection (those of a name are part of a path and were read with it)."""
+        column, before = self.column(), self.look(-1)
         self.at += 1
-        if is_name_character(self.look()) or self.look() == "«":
+        if before != "" and not before.isspace() and (is_name_character(self.look()) or self.look() == "«"):
             self.add("projection", self.run_of_name(), column)
         else:
             self.add("symbol", ".", column)

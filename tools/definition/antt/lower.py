@@ -235,6 +235,8 @@ class TermLowerer:
                 return matching.Anything(None)
             case syntax.Name():
                 found = self.module.lookup(e.text)
+                if isinstance(found, Function) and "pattern" in found.marks:
+                    raise AnttError(f"the translator does not read the `pattern abbrev` `{e.text}`", e.where)
                 return self.built(found, [], e.where, bound) if isinstance(found, Constructor) else matching.Anything(e.text)
             case syntax.Path():
                 return self.built(self.module.lookup_path(e.parts), [], e.where, bound)
@@ -354,7 +356,7 @@ class FunctionLowerer(TermLowerer):
         entity, operators = self.lowered, self.module.operators(self.sections)
         if entity.opened:
             opened = entity.opened
-            value = parse_tokens(self.tokens, opened.record + 1, opened.end, operators)
+            value = parse_tokens(self.tokens, opened.start, opened.end, operators)
             return Lowered(entity, self.leading, core.Field(self.term(value, self.names), opened.field))
         parameters, body = self.clauses(entity.name, entity.clauses, self.names, operators)
         return Lowered(entity, self.leading + parameters, body)
@@ -377,7 +379,7 @@ def is_erased(function):
 
 def gives_proof(module, start, end, operators):
     names = {name for _, name in natives.PROPOSITIONS} | set(natives.ORDERS)
-    if not any(token.text in names or f"_{token.text}_" in names for token in module.tokens[start:end]):
+    if not any(token.text in names or f"◌{token.text}◌" in names for token in module.tokens[start:end]):
         return False
     try:
         e = flattened(parse_tokens(module.tokens, start, end, operators))

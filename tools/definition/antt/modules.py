@@ -14,14 +14,14 @@ from .lexer import tokens_of
 from .operators import Fixity, Operators
 from .parser import close_of, depth_change, find_at_depth_0
 
-MARKS = {"unfoldable", "abbrev", "pub", "axiom"}
+MARKS = {"pattern", "unfoldable", "abbrev", "pub", "axiom"}
 FIXITIES = {"infix", "infixl", "infixr"}
 # lines that say nothing of what is computed
 SILENT = {"unfolding", "ruleset"}
 
 
 def fixity_line(tokens, i, j):
-    """`infixl 65 _+_ _-_`: the names with their fixity."""
+    """`infixl 65 ◌+◌ ◌-◌`: the names with their fixity."""
     if j - i < 3 or tokens[i + 1].kind != "number":
         raise AnttError("a fixity line has a level and operators", tokens[i].where)
     fixity = Fixity(tokens[i].text, tokens[i + 1].value)
@@ -144,12 +144,12 @@ class Module:
         return explicit, implicit, types
 
     def read_open(self, i, j, sections):
-        """`open R t using (f, g as h)`, `open record t using (..)`: each name is a field of t."""
-        using = find_at_depth_0(self.tokens, i, j, {"using"})
-        if using is None or not self.tokens[using + 1].is_symbol("("):
-            raise AnttError("`using (..)` was expected", self.tokens[i].where)
-        for item in items_of(self.tokens[using + 2 : close_of(self.tokens, using + 1, j)]):
-            opened = Opened(i, using, item[0].text)
+        """`open t use {f, g as h}`: each name is a field of t."""
+        use = find_at_depth_0(self.tokens, i, j, {"use"})
+        if use is None or use + 1 == j or not self.tokens[use + 1].is_symbol("{"):
+            raise AnttError("`use {..}` was expected", self.tokens[i].where)
+        for item in items_of(self.tokens[use + 2 : close_of(self.tokens, use + 1, j)]):
+            opened = Opened(i, use, item[0].text)
             self.declare(Function(self, item[-1].text, sections, (i, i), where=item[-1].where, opened=opened))
 
     # -- types
@@ -294,12 +294,13 @@ class Module:
 
 
     def field_fixity(self, found):
-        """An operator that `open` brings has the fixity that its record states."""
+        """An operator that `open` brings has the fixity that its record states: here, the records in scope state only one."""
         if not isinstance(found, Function) or not found.opened:
             return None
-        token = self.tokens[found.opened.record]
-        record = self.lookup_path(token.parts) if token.parts else self.lookup(token.text)
-        return record.fixities.get(found.opened.field) if isinstance(record, RecordType) else None
+        field = found.opened.field
+        records = [e for e in map(self.lookup, [*self.own, *self.imports]) if isinstance(e, RecordType) and field in e.fixities]
+        stated = {record.fixities[field] for record in records}
+        return stated.pop() if len(stated) == 1 else None
 
 
 def member_of_type(found, name):
@@ -330,45 +331,60 @@ class Program:
     def __init__(self, crates_folders, kit, overrides=True):
         self.overrides = overrides
         self.crates_folders = [FilePath(f) for f in crates_folders]
-        self.libraries = self.read_libraries(FilePath(kit) / "logic" / "antt-project.json")
+        self.kit = FilePath(kit) / "rattle"
+        self.libraries = self.read_libraries(self.kit / "logic" / "antt-project.json")
         self.modules = {}  # by their files
         self.files = {}  # found so far, by path
 
     @staticmethod
     def read_libraries(project):
-        described = json.loads(project.read_text(encoding="utf-8"))["libraries"]
-        return {library["name"]: (project.parent / library["src"]).resolve() for library in described}
+        """Where the files of each library stand: in the folder that its own project names, `src` if it names none."""
+        found = {}
+        for name, mount in json.loads(project.read_text(encoding="utf-8"))["mounts"].items():
+            own = project.parent / mount / "antt-project.json"
+            found[name] = (own.parent / json.loads(own.read_text(encoding="utf-8")).get("src", "src")).resolve()
+        return found
 
     def file_of(self, parts):
-        """The file of a module, or None.
-
-        A crate's specs are the library `Rattle·CRATE·specs`, with the root module `specs`, to the crate
-        itself, and `Rattle·CRATE.specs` to other crates.
-        """
+        """The file of a module, or None."""
         path = tuple(parts)
         if path not in self.files:
             self.files[path] = self.find_file(parts)
+            if self.files[path] is None:
+                passed_on = self.passed_on(parts)
+                self.files[path] = passed_on and self.file_of(passed_on)
         return self.files[path]
 
     def find_file(self, parts):
-        words = parts[0].split("·")
-        if words[0] == "Rattle" and len(words) in (2, 3) and len(parts) > 1:
-            relative = FilePath(parts[1], *(parts[2:] or ["Lib"]))
-            candidates = [folder / words[1] / relative for folder in self.crates_folders]
+        """A crate's module is `Rattle.CRATE.specs.M` or `Rattle.CRATE.proofs.M`, for the crates here and for those of the kit."""
+        if parts[0] == "Rattle" and len(parts) > 2:
+            folders = [folder.joinpath(*parts[1:]) for folder in [*self.crates_folders, self.kit]]
         elif parts[0] in self.libraries:
-            candidates = [FilePath(self.libraries[parts[0]], *(parts[1:] or ["Lib"]))]
+            folders = [self.libraries[parts[0]].joinpath(*parts[1:])]
         else:
             return None
-        files = [c.with_name(c.name + ".antt") for c in candidates]
+        files = [file for f in folders for file in (f.with_name(f.name + ".antt"), f / "Lib.antt")]
         return next((f for f in files if f.is_file()), None)
+
+    def passed_on(self, parts):
+        """The path of a module without a file of its own: one above it passes it on by `pub use`. Or None."""
+        for cut in range(len(parts) - 1, 0, -1):
+            if self.find_file(parts[:cut]):
+                aliases = self.module(parts[:cut]).aliases
+                return aliases[parts[cut]] + list(parts[cut + 1 :]) if parts[cut] in aliases else None
+        return None
 
     def module(self, parts):
         file = self.file_of(parts)
         if file is None:
             raise AnttError(f"no file for the module {'.'.join(parts)}")
         if file not in self.modules:
-            self.modules[file] = Module(self, canonical(parts), file)
+            self.modules[file] = Module(self, self.name_of(parts), file)
         return self.modules[file]
+
+    def name_of(self, parts):
+        """The name of a module by the path to its own file."""
+        return ".".join(parts) if self.find_file(parts) else self.name_of(self.passed_on(parts))
 
     def override(self, module, name):
         """A function of the runtime in place of a library's own clauses, for speed."""
@@ -392,11 +408,3 @@ class Program:
         if native or self.file_of(path) is None:
             return native
         return self.module(path).fixity(name)
-
-
-def canonical(parts):
-    """The one name of a module of a crate, as the crate itself has it."""
-    words = parts[0].split("·")
-    if words[0] == "Rattle" and len(words) == 2:
-        return ".".join([f"{parts[0]}·{parts[1]}", *parts[1:]])
-    return ".".join(parts)

@@ -10,7 +10,7 @@ STRING = "Prim.Native.String"
 # Data types with a representation of their own in the runtime.
 FAMILIES = {
     ("mathlib.Core.Bool", "Bool"): "bool",
-    ("mathlib.Core.List", "List"): "list",
+    ("mathlib.Core.List.Defs", "List"): "list",
     ("mathlib.Core.Nat", "ℕ"): "nat",
     ("std.Bool", "Bool"): "bool",
     ("std.List", "List"): "list",
@@ -18,10 +18,10 @@ FAMILIES = {
 }
 
 # The runtime builds values of this type, so its constructors' numbers are fixed: 0, 1, 2.
-ORDERING = ["Ordering·lt", "Ordering·eq", "Ordering·gt"]
+ORDERING = ["lt", "eq", "gt"]
 
 
-ORDERS = ["_≤_", "_<_", "_∣_"]
+ORDERS = ["◌≤◌", "◌<◌", "◌∣◌"]
 
 
 def data(name, family, constructors):
@@ -31,7 +31,7 @@ def data(name, family, constructors):
 def native_modules():
     nat = data("ℕ", "nat", {"zero": 0, "suc": 1})
     ordering = data("Ordering", "data", {c: 0 for c in ORDERING})
-    string = data("String", "string", {"[]": 0, "_∷_": 2})
+    string = data("String", "string", {"[]": 0, "◌∷◌": 2})
     table = {
         (NAT, "ℕ"): nat,
         (NAT, "Ordering"): ordering,
@@ -39,7 +39,7 @@ def native_modules():
         (CHAR, "Char"): DataType("Char", {}),
         (CHAR, "code"): Primitive("code", 1),
         (NAT, "pred"): Primitive("pred", 1),
-        (STRING, "_++_"): Primitive("joined", 2),
+        (STRING, "◌++◌"): Primitive("joined", 2),
         (STRING, "count"): Primitive("count", 1),
         (STRING, "len"): Primitive("len", 1),
     }
@@ -47,15 +47,18 @@ def native_modules():
         table[(NAT, name)] = DataType(name, {})
     for name, constructor in string.constructors.items():
         table[(STRING, name)] = constructor
-    for name, constructor in (nat.constructors | ordering.constructors).items():
+    for name, constructor in nat.constructors.items():
         table[(NAT, name)] = constructor
     binary = {
-        "_+_": "add",
-        "_-_": "subtract",
-        "_*_": "multiply",
-        "_/_": "divide",
-        "_%_": "remainder",
-        "_^_": "power",
+        "◌+◌": "add",
+        "◌-◌": "subtract",
+        "◌*◌": "multiply",
+        "◌/◌": "divide",
+        "◌%◌": "remainder",
+        "◌^◌": "power",
+        "bit_and": "bitAnd",
+        "bit_or": "bitOr",
+        "bit_xor": "bitXor",
         "min": "min",
         "max": "max",
         "compare": "compare",
@@ -68,16 +71,16 @@ def native_modules():
 NATIVES = native_modules()
 
 FIXITIES = {
-    (NAT, "_+_"): Fixity("infixl", 65),
-    (NAT, "_-_"): Fixity("infixl", 65),
-    (NAT, "_*_"): Fixity("infixl", 70),
-    (NAT, "_/_"): Fixity("infixl", 70),
-    (NAT, "_%_"): Fixity("infixl", 70),
-    (NAT, "_^_"): Fixity("infixr", 75),
-    (NAT, "_≤_"): Fixity("infix", 50),
-    (NAT, "_<_"): Fixity("infix", 50),
-    (STRING, "_∷_"): Fixity("infixr", 67),
-    (STRING, "_++_"): Fixity("infixr", 65),
+    (NAT, "◌+◌"): Fixity("infixl", 65),
+    (NAT, "◌-◌"): Fixity("infixl", 65),
+    (NAT, "◌*◌"): Fixity("infixl", 70),
+    (NAT, "◌/◌"): Fixity("infixl", 70),
+    (NAT, "◌%◌"): Fixity("infixl", 70),
+    (NAT, "◌^◌"): Fixity("infixr", 75),
+    (NAT, "◌≤◌"): Fixity("infix", 50),
+    (NAT, "◌<◌"): Fixity("infix", 50),
+    (STRING, "◌∷◌"): Fixity("infixr", 67),
+    (STRING, "◌++◌"): Fixity("infixr", 65),
 }
 
 # Library functions that the runtime has in a faster form. `check` holds each to the library's own clauses.
@@ -86,19 +89,19 @@ OVERRIDES = {
     ("lib.Dec", "leb"): Primitive("leb", 2),
     ("lib.Dec", "ltb"): Primitive("ltb", 2),
     ("lib.ListN", "length"): Primitive("length", 1),
-    ("lib.ListN", "getD"): Primitive("getD", 3),
+    ("lib.ListN", "get_or"): Primitive("getOr", 3),
     ("lib.ListN", "drop"): Primitive("drop", 2),
-    ("mathlib.Core.Bool", "_&&_"): Primitive("and", 2),
-    ("mathlib.Core.Bool", "_||_"): Primitive("or", 2),
+    ("mathlib.Core.Bool", "◌&&◌"): Primitive("and", 2),
+    ("mathlib.Core.Bool", "◌||◌"): Primitive("or", 2),
     ("mathlib.Core.Bool", "not"): Primitive("not", 1),
     ("mathlib.Core.Bool", "cond"): Primitive("cond", 3),
 }
 
 # A function with such a result is a proof, and is not run.
 PROPOSITIONS = {
-    ("mathlib.Core.Path", "_≡_"),
-    ("mathlib.Core.Logic", "_≢_"),
-    ("mathlib.Core.Logic", "_↔_"),
+    ("mathlib.Core.Path", "◌≡◌"),
+    ("mathlib.Core.Logic", "◌≢◌"),
+    ("mathlib.Core.Logic", "◌↔◌"),
     ("mathlib.Core.Bool", "So"),
     ("lib.Dec", "T"),
 }
@@ -111,7 +114,7 @@ def is_proposition(entity):
 
 
 # Types and truncations of the prelude: they stand for nothing that is run.
-TYPES = ["Unit", "⊥", "Dec", "Discrete", "IsProp", "IsSet", "Id", "Path", "¬_", "∥_∥₁", "∣_∣₁", "LEM", "AC"]
+TYPES = ["Unit", "⊥", "Dec", "Discrete", "IsProp", "IsSet", "Id", "Path", "¬◌", "∥◌∥₁", "∣◌∣₁"]
 
 # Tactics that prove: their calls stand for nothing that is run either.
 TACTICS = ["omega", "cc"]

@@ -1,6 +1,8 @@
-"""Operators: names with places for operands, as `_+_`, `if_then_else_` or `⟪_⟫`."""
+"""Operators: names with places for operands, as `◌+◌`, `if◌then◌else◌` or `⟪◌⟫`."""
 
 from dataclasses import dataclass
+
+from .lexer import PLACE
 
 
 @dataclass(frozen=True)
@@ -28,12 +30,12 @@ class Operator:
 
 
 def is_operator(name):
-    return "_" in name and name.strip("_") != "" and not name.startswith("«")
+    return PLACE in name and name.strip(PLACE) != "" and not name.startswith("«")
 
 
 def operator(name, fixity):
-    parts = tuple(part for part in name.split("_") if part)
-    return Operator(name, parts, name.startswith("_"), name.endswith("_"), fixity)
+    parts = tuple(part for part in name.split(PLACE) if part)
+    return Operator(name, parts, name.startswith(PLACE), name.endswith(PLACE), fixity)
 
 
 class Operators:
@@ -45,8 +47,8 @@ class Operators:
         self.known = {}
         self.by_part = {}  # (first part, whether an operand stands before it) -> names
         for name in sorted(self.names):
-            first = next(part for part in name.split("_") if part)
-            self.by_part.setdefault((first, name.startswith("_")), []).append(name)
+            first = next(part for part in name.split(PLACE) if part)
+            self.by_part.setdefault((first, name.startswith(PLACE)), []).append(name)
 
     def extended(self, names, fixities):
         """With those of a `where` block."""
@@ -80,11 +82,11 @@ class Operators:
         return found if is_binary and found.fixity else None
 
     def left_section(self, text):
-        """`_+` of `(_+ 1)`, unless something has that name."""
-        is_section = text.startswith("_") and not text.endswith("_") and text not in self.names
-        return self.binary(text + "_") if is_section else None
+        """`◌+` of `(◌+ 1)`, unless something has that name."""
+        is_section = text.startswith(PLACE) and not text.endswith(PLACE) and text not in self.names
+        return self.binary(text + PLACE) if is_section else None
 
     def right_section(self, text):
-        """`+_` of `(1 +_)`, unless something has that name."""
-        is_section = text.endswith("_") and not text.startswith("_") and text not in self.names
-        return self.binary("_" + text) if is_section else None
+        """`+◌` of `(1 +◌)`, unless something has that name."""
+        is_section = text.endswith(PLACE) and not text.startswith(PLACE) and text not in self.names
+        return self.binary(PLACE + text) if is_section else None

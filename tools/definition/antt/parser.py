@@ -4,16 +4,16 @@ from . import syntax
 from .errors import AnttError
 from .lexer import Token
 
-BIND = "_>>=_"
-THEN = "_>>_"
+BIND = "◌>>=◌"
+THEN = "◌>>◌"
 OPENERS = {"(", "{"}
 CLOSERS = {")", "}"}
 
 # Names that end an expression, so that they are no atoms.
-STOPS = {"[", "]", "|", "=", ":", "→", "←", "↦", "×", "in", "as", "where", "using", "deriving"}
-TYPES = {"Type", "𝕀", "𝔽", "V"}
+STOPS = {"[", "]", "|", "=", ":", "→", "←", "↦", "×", "in", "as", "where", "deriving"}
+TYPES = {"Type", "𝕀", "𝔽"}
 # What is written with these is a proof or a path: nothing that a definition computes.
-UNREAD = {"coe", "fcoe", "tcoe", "hcom", "com", "vin", "vproj", "inS", "outS", "∨", "∧", "∀", "package", "open", "mutual", "module", "data"}
+UNREAD = {"coe", "fcoe", "tcoe", "hcom", "com", "∨", "∧", "∀", "package", "open", "mutual", "module", "data"}
 
 
 def depth_change(token):
@@ -229,7 +229,7 @@ class Parser:
         return self.application()
 
     def application(self):
-        """A head, arguments and projections, each projection of all that stands left of it."""
+        """A head and arguments."""
         where = self.peek().where
         if not self.begins_atom() and not (self.peek().kind == "name" and self.operators.closed(self.peek().text)):
             self.fail("an expression was expected")
@@ -237,11 +237,7 @@ class Parser:
         arguments = []
         while True:
             token = self.peek()
-            if token.kind == "projection":
-                self.at += 1
-                result = syntax.Apply(result, arguments, where) if arguments else result
-                result, arguments = syntax.Project(result, token.text, token.where), []
-            elif token.is_symbol("{"):
+            if token.is_symbol("{"):
                 arguments.append(self.implicit())
             elif self.begins_atom():
                 arguments.append(self.atom())
@@ -272,11 +268,18 @@ class Parser:
             case "path":
                 return syntax.Path(token.parts, where)
             case "symbol" if token.text == "(":
-                return self.bracketed("(", self.parenthesis, where)
+                return self.projected(self.bracketed("(", self.parenthesis, where))
             case "name":
                 return self.named_atom(token.text, where)
         self.at -= 1
         return self.fail("an expression was expected")
+
+    def projected(self, result):
+        """`(e).f.g`: fields of what stands in parentheses."""
+        while self.peek().kind == "projection":
+            token = self.next()
+            result = syntax.Project(result, token.text, token.where)
+        return result
 
     def named_atom(self, text, where):
         forms = {"λ": self.lambda_, "let": self.let, "do": self.do, "elim": self.elim, "record": self.record, "unfold": self.unfold}
@@ -384,6 +387,8 @@ class Parser:
         return self.expression()
 
     def record(self, where):
+        if not self.peek().is_symbol("{"):
+            self.fail("the translator does not read `record r { .. }`")
         self.need_symbol("{")
         return self.bracketed("record", self.record_fields, where)
 

@@ -1,6 +1,6 @@
 """Terms that run faster and mean the same.
 
-The changes that matter: a function that is handed a λ, as `_>>=_` is by a `do` block, is written out in place,
+The changes that matter: a function that is handed a λ, as `◌>>=◌` is by a `do` block, is written out in place,
 so that a block runs without closures; and so is a small function that may not look at an argument, so that
 the argument is computed only where it is looked at.
 """
