@@ -19,7 +19,7 @@ returns-then-wide-eq-SLASH c = comment_closes c.args.text.now _ _ c.loop-i.invar
 pub loop-i-preserved : goal.loop-i-preserved
 loop-i-preserved c =
     elim c.if-wide-eq-STAR.branch [
-      then-wide-eq-STAR+else-wide-eq-SLASH w ↦ comment_star c.args.text.now _ _ c.loop-i.invariant (omega (arith, c.loop-i-test.true)) (sym c.wide.ensures ∙ w.if-wide-eq-STAR.true) (λ e. w.if-wide-eq-SLASH.false (w.wide-then-wide-eq-STAR.ensures ∙ e))
+      | then-wide-eq-STAR+else-wide-eq-SLASH w ↦ comment_star c.args.text.now _ _ c.loop-i.invariant (omega (arith, c.loop-i-test.true)) (sym c.wide.ensures ∙ w.if-wide-eq-STAR.true) (λ e. w.if-wide-eq-SLASH.false (w.wide-then-wide-eq-STAR.ensures ∙ e))
       | else-wide-eq-STAR w ↦ comment_plain c.args.text.now _ _ c.loop-i.invariant (omega (arith, c.loop-i-test.true)) (λ e. w.if-wide-eq-STAR.false (c.wide.ensures ∙ e))
     ]
 

@@ -22,7 +22,7 @@ loop-i-preserved c = (
   elim c.if-byte_at-eq-LINE_FEED.branch [ then-byte_at-eq-LINE_FEED w ↦ omega (arith, w.line-is, w.column-is) | else-byte_at-eq-LINE_FEED w ↦ omega (arith, w.line-is, w.column-is) ],
   elim c.if-byte_at-eq-LINE_FEED.branch [ then-byte_at-eq-LINE_FEED w ↦ omega (arith, w.line-is, w.column-is) | else-byte_at-eq-LINE_FEED w ↦ omega (arith, w.line-is, w.column-is) ],
   elim c.if-byte_at-eq-LINE_FEED.branch [
-    then-byte_at-eq-LINE_FEED w ↦ next-line c.args.text.now c.loop-i.i (omega (arith, ltb-true)) _ _ _ _ c.loop-i.invariant.4 (sym c.byte_at.ensures ∙ w.if-byte_at-eq-LINE_FEED.true) w.line-is w.column-is
+    | then-byte_at-eq-LINE_FEED w ↦ next-line c.args.text.now c.loop-i.i (omega (arith, ltb-true)) _ _ _ _ c.loop-i.invariant.4 (sym c.byte_at.ensures ∙ w.if-byte_at-eq-LINE_FEED.true) w.line-is w.column-is
     | else-byte_at-eq-LINE_FEED w ↦ next-column c.args.text.now c.loop-i.i (omega (arith, ltb-true)) _ _ _ _ c.loop-i.invariant.4 (λ e. w.if-byte_at-eq-LINE_FEED.false (c.byte_at.ensures ∙ e)) w.line-is w.column-is
   ],
 )
