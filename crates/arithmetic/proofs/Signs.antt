@@ -1,7 +1,7 @@
 -- Products, quotients, remainders and shifts by sign and size, in a range from -H to H - 1. Assumes nothing.
 use mathlib.Core.Path.{◌≡◌, refl, ap}
 use mathlib.Core.Bool.{true, false, beq}
-use Prim.Native.Nat.{ℕ, zero, suc, ◌+◌, ◌-◌, ◌*◌, ◌/◌, ◌≤◌, ◌<◌}
+use Prim.Native.Nat.{ℕ, zero, suc, ◌+◌, ◌*◌, ◌/◌, ◌≤◌, ◌<◌}
 use native.Mathlib.Nat.{mul_comm, zero-mul, le-div_iff_mul-le, div-lt_iff_lt-mul, div-le_self, div-lt_self, div-one, mod-one, div-eq_of_lt, mul-le-mul, lt_of_lt_of_le, le_refl}
 use native.Mathlib.Omega.{arith}
 use borrow.Author.Tests.{ltb-true, leb-false, le-ltb}

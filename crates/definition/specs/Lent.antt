@@ -1,6 +1,6 @@
 -- The lent slices: which number of the table stands in which entry. Each kind of entry has a region of its own, one entry after the other,
 -- and zeros after the last; all is zero on refusal.
-use Rattle.std.specs.Prelude.{List, [], ◌∷◌, ◌++◌, Bool, ◌&&◌, ℕ, ◌+◌, ◌-◌, ◌*◌, leb, ℤ, pos, length, replicate}
+use Rattle.std.specs.Prelude.{List, [], ◌∷◌, ◌++◌, Bool, ◌&&◌, ℕ, ◌-◌, ◌*◌, leb, ℤ, pos, length, replicate}
 use Rattle.definition.specs.Limit.{max_rows, max_members, max_values, max_parameters, max_declarations, max_names}
 use Rattle.definition.specs.Region.{row_columns, member_columns, value_columns, parameter_columns, declaration_columns, name_columns, member_wide_columns, words_length, wides_length, signeds_length}
 use Rattle.definition.specs.Name.{offset_of, length_of}

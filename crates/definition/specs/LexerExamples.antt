@@ -1,5 +1,5 @@
 -- Texts cut into tokens, computed.
-use Rattle.std.specs.Prelude.{◌≡◌, refl, List, [], ◌∷◌, ◌++◌, ℕ, ◌+◌, ◌*◌}
+use Rattle.std.specs.Prelude.{◌≡◌, refl, List, [], ◌∷◌, ◌++◌, ℕ}
 use Prim.Native.String.{String}
 use Rattle.definition.specs.Answer.{Answer, got, refused, ◌>>=◌}
 use Rattle.definition.specs.Text.{Bytes, bytes, same}

@@ -29,7 +29,7 @@ use Rattle.definition_laws.specs.Every.{Every}
 use Rattle.definition_laws.proofs.Every.{got!, no!, bool!, then!, weaker!, any! }
 use Rattle.definition_laws.proofs.Progress.{one_more_step-stays}
 use Rattle.definition_laws.proofs.Each.{Each}
-use Rattle.definition_laws.proofs.Sound.{Marks, here, row, mark, MemberIn, Sound, Kept, Gives, stay, equal, join, join-gives, open_members, open_values, open_parameters, members-opened, values-opened, parameters-opened, push_member-sound, push_value-sound, push_parameter-sound, members-fields, fields_only-length}
+use Rattle.definition_laws.proofs.Sound.{Marks, here, mark, MemberIn, Sound, Kept, Gives, stay, equal, join, join-gives, open_members, open_values, open_parameters, members-opened, values-opened, parameters-opened, push_member-sound, push_value-sound, push_parameter-sound, members-fields, fields_only-length}
 use Rattle.definition_laws.proofs.LayoutKeeps.{layout-keeps}
 use Rattle.definition_laws.proofs.SoundTable.{GivesRow, BaseIn, named_type-sound, base_type-sound, adjusted-sound, declared_row-sound, declare-sound, tag_row-sound, opening, opened, starred-opens, apply-sound, define_body-sound, add_body-sound, noted-sound, close_enum-sound, bare_enum-sound}
 

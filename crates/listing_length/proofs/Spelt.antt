@@ -13,7 +13,7 @@ use Rattle.definition.specs.Limit.{max_text}
 use Rattle.definition.specs.Text.{Bytes, byte_at, same}
 use Rattle.definition.specs.Byte.{line_feed, hash, apostrophe, quote}
 use Rattle.definition.specs.Class.{letter, digit, class_of, is_blank}
-use Rattle.definition.specs.Scan.{from, first, before}
+use Rattle.definition.specs.Scan.{from, first}
 use Rattle.definition.specs.Comment.{joins, opens_line_comment, opens_comment}
 use Rattle.definition.specs.Directive.{directive, is_macro, ends_word}
 use Rattle.definition.specs.Attribute.{Attribute}

@@ -13,7 +13,6 @@ use Rattle.definition.specs.Limit.{max_values, max_parameters, max_declarations,
 use Rattle.definition.specs.Kind.{is_name, is_word, end, attribute, enum_word, union_word, star, open_paren, close_paren, open_bracket, close_bracket, open_brace, close_brace, comma, ellipsis, semicolon, colon, equals}
 use Rattle.definition.specs.Name.{no_name}
 use Rattle.definition.specs.Token.{Tokens, kind_at, number_at, left}
-use Rattle.definition.specs.Constant.{constant}
 use Rattle.definition.specs.Model.{Model}
 use Rattle.definition.specs.RowKind.{void_kind, array_kind, function_kind, qualified_kind}
 use Rattle.definition.specs.Row.{Row, void, int, float, bool, pointer, array, composite, enumeration, function, typedef, qualified, Qualifiers, Span, kind_of, target_of, is_some}

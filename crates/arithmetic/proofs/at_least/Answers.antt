@@ -1,4 +1,3 @@
-use borrow.Author.Rules.{rules}
 use Rattle.definition.specs.Arithmetic.{at_least}
 use Rattle.arithmetic.proofs.Told.{back, made, truth-fits}
 use Rattle.arithmetic.proofs.at_least.Goals as goal

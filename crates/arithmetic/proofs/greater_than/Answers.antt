@@ -1,4 +1,3 @@
-use borrow.Author.Rules.{rules}
 use Rattle.definition.specs.Arithmetic.{greater}
 use Rattle.arithmetic.proofs.Told.{back, made, truth-fits}
 use Rattle.arithmetic.proofs.greater_than.Goals as goal

@@ -1,4 +1,3 @@
-use borrow.Author.Rules.{rules}
 use Rattle.definition.specs.Arithmetic.{less}
 use Rattle.arithmetic.proofs.Told.{back, made, truth-fits}
 use Rattle.arithmetic.proofs.less_than.Goals as goal

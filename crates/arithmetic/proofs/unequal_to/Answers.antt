@@ -1,4 +1,3 @@
-use borrow.Author.Rules.{rules}
 use mir.Syntax.{w64}
 use Rattle.definition.specs.Arithmetic.{unequal}
 use Rattle.arithmetic.proofs.Bitwise.{same_bits}

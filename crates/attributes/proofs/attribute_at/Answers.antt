@@ -1,10 +1,6 @@
-use borrow.Author.Rules.{rules}
 use native.Mathlib.Omega.{arith}
 use mathlib.Core.Path.{sym, ◌∙◌}
-use Prim.Native.Nat.{◌-◌}
-use Rattle.definition.specs.Scan.{before}
 use Rattle.scan.proofs.Going.{there}
-use Rattle.definition.specs.Attribute.{parenthesized}
 use Rattle.attributes.proofs.Parens.{no_parens, parens}
 use Rattle.attributes.proofs.attribute_at.Goals as goal
 

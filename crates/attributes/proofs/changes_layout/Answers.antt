@@ -1,10 +1,6 @@
-use borrow.Author.Rules.{rules}
 use mathlib.Core.Path.{sym, ◌∙◌}
 use mathlib.Mathlib.Data.Bool.Basic.{or_inl}
-use Prim.Native.Nat.{◌-◌}
 use Rattle.definition.specs.Text.{bytes}
-use Rattle.definition.specs.Scan.{before}
-use Rattle.definition.specs.Scan.{contains}
 use Rattle.definition.specs.Attribute.{changes_layout}
 use Rattle.attributes.proofs.changes_layout.Goals as goal
 

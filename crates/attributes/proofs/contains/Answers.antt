@@ -1,10 +1,5 @@
-use borrow.Author.Rules.{rules}
 use native.Mathlib.Omega.{arith}
-use mathlib.Core.Path.{◌≡◌, refl, sym, ◌∙◌}
-use Prim.Native.Nat.{◌-◌, ◌≤◌}
-use lib.ListN.{length}
-use Rattle.definition.specs.Scan.{from, before}
-use Rattle.definition.specs.Scan.{contains}
+use mathlib.Core.Path.{refl, sym, ◌∙◌}
 use Rattle.attributes.proofs.Within.{found, not_here, at-end}
 use Rattle.attributes.proofs.contains.Goals as goal
 

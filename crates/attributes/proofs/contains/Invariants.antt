@@ -1,11 +1,8 @@
-use borrow.Author.Rules.{rules}
-use native.Mathlib.Omega.{arith}
-use mathlib.Core.Path.{◌≡◌, refl, sym, ◌∙◌}
+use mathlib.Core.Path.{◌≡◌}
 use Prim.Native.Nat.{◌-◌, ◌≤◌}
 use lib.ListN.{length}
-use Rattle.definition.specs.Scan.{from, before}
+use Rattle.definition.specs.Scan.{from}
 use Rattle.definition.specs.Scan.{contains}
-use Rattle.attributes.proofs.Within.{found, not_here, at-end}
 use Rattle.attributes.proofs.contains.Given as goal
 
 abbrev pub invariant-loop-i : goal.invariant-loop-i

@@ -1,11 +1,5 @@
-use borrow.Author.Rules.{rules}
 use native.Mathlib.Omega.{arith}
-use mathlib.Core.Path.{◌≡◌, refl, sym, ◌∙◌}
-use mathlib.Core.Logic.{⊎_elim}
-use Prim.Native.Nat.{zero, ◌+◌, ◌-◌, ◌≤◌}
-use lib.ListN.{length}
-use Rattle.definition.specs.Scan.{from, before}
-use Rattle.definition.specs.Attribute.{in_parens}
+use mathlib.Core.Path.{refl, sym, ◌∙◌}
 use Rattle.attributes.proofs.Parens.{parens-end, paren_opens, paren_other, paren_closes, paren_last}
 use Rattle.attributes.proofs.parens_end.Goals as goal
 use Rattle.attributes.proofs.parens_end.Goals.{then-b-eq-OPEN_PAREN, else-b-eq-OPEN_PAREN+then-b-eq-CLOSE_PAREN+else-deep-eq0, else-b-eq-OPEN_PAREN+else-b-eq-CLOSE_PAREN}

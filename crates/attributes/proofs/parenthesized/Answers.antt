@@ -1,8 +1,5 @@
-use borrow.Author.Rules.{rules}
 use mathlib.Core.Path.{sym}
-use Prim.Native.Nat.{◌-◌}
-use Rattle.definition.specs.Scan.{before}
-use Rattle.attributes.proofs.Parens.{parens-end, not_closed_lem, closed}
+use Rattle.attributes.proofs.Parens.{not_closed_lem, closed}
 use Rattle.attributes.proofs.parenthesized.Goals as goal
 
 pub returns-then-text-end : goal.returns-then-text-end

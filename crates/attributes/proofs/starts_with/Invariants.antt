@@ -1,12 +1,8 @@
-use borrow.Author.Rules.{rules}
-use native.Mathlib.Omega.{arith}
-use native.Mathlib.Nat.{add-zero}
-use mathlib.Core.Path.{◌≡◌, sym, ap, ◌∙◌}
-use Prim.Native.Nat.{ℕ, ◌+◌, ◌-◌, ◌≤◌}
+use mathlib.Core.Path.{◌≡◌}
+use Prim.Native.Nat.{◌+◌, ◌-◌, ◌≤◌}
 use lib.ListN.{length}
-use Rattle.definition.specs.Scan.{from, before}
+use Rattle.definition.specs.Scan.{from}
 use Rattle.definition.specs.Scan.{starts_with}
-use Rattle.attributes.proofs.Within.{word-done, body-done, byte_differs, byte_same}
 use Rattle.attributes.proofs.starts_with.Given as goal
 
 abbrev pub invariant-loop-k : goal.invariant-loop-k

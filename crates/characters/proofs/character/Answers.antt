@@ -1,13 +1,8 @@
-use borrow.Author.Rules.{rules}
 use native.Mathlib.Omega.{arith}
 use mathlib.Core.Path.{sym, ap, ◌∙◌}
-use Prim.Native.Nat.{◌-◌, ◌≤◌, ◌<◌}
-use lib.ListN.{length}
-use Rattle.definition.specs.Scan.{before}
-use Rattle.definition.specs.Character.{character_at}
 use Rattle.literals.proofs.Capped.{capped-zero}
 use Rattle.literals.specs.Shown.{read}
-use Rattle.characters.proofs.Constant.{Going, going-ends, going-closes, going-stops, going_on, character_empty, character_starts, never-got}
+use Rattle.characters.proofs.Constant.{going-ends, going-closes, going-stops, going_on, character_empty, character_starts, never-got}
 use Rattle.characters.proofs.character.Goals as goal
 
 pub returns-then-byte_at-eq-APOSTROPHE : goal.returns-then-byte_at-eq-APOSTROPHE

@@ -1,6 +1,4 @@
-use borrow.Author.Rules.{rules}
 use mathlib.Core.Path.{sym}
-use Prim.Native.Nat.{◌-◌}
 use Rattle.characters.proofs.Constant.{closed_in, closed-past, next_of, never-got}
 use Rattle.characters.proofs.closed.Goals as goal
 

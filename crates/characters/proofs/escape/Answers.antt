@@ -1,8 +1,5 @@
-use borrow.Author.Rules.{rules}
 use native.Mathlib.Omega.{arith}
 use mathlib.Core.Path.{sym, ap, ◌∙◌}
-use Prim.Native.Nat.{◌-◌}
-use Rattle.definition.specs.Scan.{before}
 use Rattle.definition.specs.Character.{escaped}
 use Rattle.characters.proofs.Constant.{reads_by, reads_from, reads_refused, reads_got, escape_end, escape_hex, escape-plain}
 use Rattle.characters.proofs.escape.Goals as goal

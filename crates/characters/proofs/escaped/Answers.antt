@@ -1,7 +1,5 @@
 use native.Mathlib.Omega.{arith}
 use mathlib.Core.Path.{sym, ap}
-use Prim.Native.Nat.{◌-◌}
-use Rattle.definition.specs.Scan.{before}
 use Rattle.definition.specs.Character.{escaped}
 use Rattle.characters.proofs.Constant.{no_escape}
 use Rattle.characters.proofs.escaped.Goals as goal

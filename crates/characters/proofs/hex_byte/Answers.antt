@@ -1,10 +1,7 @@
-use borrow.Author.Rules.{rules}
 use native.Mathlib.Omega.{arith}
 use native.Mathlib.Nat.{add-zero, zero-add}
-use mathlib.Core.Path.{◌≡◌, refl, ap, ◌∙◌}
-use Prim.Native.Nat.{◌+◌, ◌-◌, ◌*◌, ◌≤◌, ◌<◌}
-use lib.ListN.{length, take}
-use Rattle.definition.specs.Scan.{from, before}
+use mathlib.Core.Path.{refl, ap, ◌∙◌}
+use Prim.Native.Nat.{◌+◌}
 use Rattle.definition.specs.Number.{digit_value, value_from}
 use Rattle.definition.specs.Character.{ends_hex}
 use Rattle.scan.proofs.Going.{stopped, ended}

@@ -1,15 +1,9 @@
-use borrow.Author.Rules.{rules}
-use native.Mathlib.Omega.{arith}
-use native.Mathlib.Nat.{add-zero, zero-add}
-use mathlib.Core.Path.{◌≡◌, refl, ap, ◌∙◌}
+use mathlib.Core.Path.{◌≡◌}
 use Prim.Native.Nat.{◌+◌, ◌-◌, ◌*◌, ◌≤◌, ◌<◌}
 use lib.ListN.{length, take}
 use Rattle.definition.specs.Scan.{from, before}
-use Rattle.definition.specs.Number.{digit_value, value_from}
+use Rattle.definition.specs.Number.{value_from}
 use Rattle.definition.specs.Character.{ends_hex}
-use Rattle.scan.proofs.Going.{stopped, ended}
-use Rattle.characters.proofs.Hex.{hex_stops, hex_reads, hex_next, hex_past, hex_too_large}
-use Rattle.characters.proofs.Constant.{reads_refused}
 use Rattle.characters.proofs.hex_byte.Given as goal
 
 abbrev pub invariant-loop-n : goal.invariant-loop-n

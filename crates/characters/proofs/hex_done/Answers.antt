@@ -1,7 +1,5 @@
-use borrow.Author.Rules.{rules}
 use native.Mathlib.Omega.{arith}
 use mathlib.Core.Path.{refl}
-use Prim.Native.Nat.{◌-◌}
 use Rattle.characters.proofs.hex_done.Goals as goal
 
 pub returns-then-n-eq0 : goal.returns-then-n-eq0

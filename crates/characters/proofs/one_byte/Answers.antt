@@ -1,9 +1,5 @@
-use borrow.Author.Rules.{rules}
 use native.Mathlib.Omega.{arith}
 use mathlib.Core.Path.{sym, ◌∙◌}
-use Prim.Native.Nat.{◌-◌}
-use Rattle.definition.specs.Scan.{before}
-use Rattle.definition.specs.Character.{escape}
 use Rattle.characters.proofs.Constant.{reads_by, reads_got, byte_escape, byte_plain}
 use Rattle.characters.proofs.one_byte.Goals as goal
 

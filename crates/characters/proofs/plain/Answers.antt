@@ -1,7 +1,4 @@
-use borrow.Author.Rules.{rules}
 use native.Mathlib.Omega.{arith}
-use Prim.Native.Nat.{◌-◌}
-use Rattle.definition.specs.Scan.{before}
 use Rattle.scan.proofs.Going.{inside}
 use Rattle.characters.proofs.plain.Goals as goal
 

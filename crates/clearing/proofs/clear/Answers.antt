@@ -1,4 +1,3 @@
-use borrow.Author.Rules.{rules}
 use Rattle.clearing.proofs.Zeros.{cleared}
 use Rattle.clearing.proofs.clear.Goals as goal
 

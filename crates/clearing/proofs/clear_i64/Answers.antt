@@ -1,9 +1,7 @@
-use borrow.Author.Rules.{rules}
 use native.Mathlib.Omega.{arith}
-use mathlib.Core.Path.{◌≡◌, refl}
-use Prim.Native.Nat.{◌-◌, ◌≤◌}
+use mathlib.Core.Path.{refl}
 use lib.IntN.{pos}
-use lib.ListN.{length, take, replicate, length-set}
+use lib.ListN.{length-set}
 use Rattle.clearing.proofs.Zeros.{zeros_more, zeros_all}
 use Rattle.clearing.proofs.clear_i64.Goals as goal
 

@@ -1,9 +1,6 @@
-use borrow.Author.Rules.{rules}
-use native.Mathlib.Omega.{arith}
-use mathlib.Core.Path.{◌≡◌, refl}
+use mathlib.Core.Path.{◌≡◌}
 use Prim.Native.Nat.{◌-◌, ◌≤◌}
-use lib.ListN.{length, take, replicate, length-set}
-use Rattle.clearing.proofs.Zeros.{zeros_more, zeros_all}
+use lib.ListN.{length, take, replicate}
 use Rattle.clearing.proofs.clear_u64.Given as goal
 
 abbrev pub invariant-loop-i : goal.invariant-loop-i

@@ -1,21 +1,10 @@
-use Prim.Native.Nat.{ℕ, ◌<◌}
-use borrow.Author.Rules.{rules, sfits_of}
-use native.Mathlib.Omega.{arith}
-use mathlib.Core.Path.{refl, sym, ap, ◌∙◌}
 use Prim.Native.Nat.{suc, ◌+◌, ◌-◌, ◌*◌}
 use lib.ListN.{length}
-use mir.Syntax.{w64}
-use mir.Val.{to_z}
-use Rattle.arithmetic.proofs.Told.{back}
 use Rattle.constants.specs.Lookup.{known_value}
 use Rattle.constants.specs.Reading.{tokens}
 use Rattle.table.specs.Ends.{Ends}
-use Rattle.table.proofs.Branch.{by, yes!, nay!, eq+, eq-, lt+, lt-}
-use Rattle.constants.proofs.Steps.{done, done_as, shown, stop, call, fail, ate, missed, settled_at, go_on, give_up, settle, there, prefix-there, operator-there, third, second, no_operand, an_operand, no_chain, a-chain, no_condition, a-condition, past}
-use Rattle.constants.proofs.Rounds.{Going, starts, starts_as, turn}
-use Rattle.definition.specs.Arithmetic.{is_prefix}
-use Rattle.definition.specs.Constant.{operand₁, operators_from, chain₁, condition₁, level}
-use Rattle.arithmetic.proofs.Bitwise.{is-zero, not_zero}
+use Rattle.constants.proofs.Rounds.{Going}
+use Rattle.definition.specs.Constant.{operators_from, level}
 use Rattle.constants.proofs.+binary_conditional_unary.Given as goal
 
 abbrev pub decreases-binary : goal.decreases-binary

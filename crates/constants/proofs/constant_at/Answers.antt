@@ -1,4 +1,3 @@
-use borrow.Author.Rules.{rules}
 use Rattle.definition.specs.Constant.{constant}
 use Rattle.constants.proofs.constant_at.Goals as goal
 

@@ -1,4 +1,3 @@
-use borrow.Author.Rules.{rules}
 use borrow.Author.Rules.{sfits_of}
 use Rattle.arithmetic.proofs.Told.{back}
 use Rattle.constants.proofs.Enumerators.{refused-here, done-here}

@@ -1,4 +1,3 @@
-use borrow.Author.Rules.{rules}
 use borrow.Author.Rules.{sfits_of}
 use Rattle.definition.specs.Answer.{◌>>=◌}
 use Rattle.arithmetic.specs.Outcome.{answer}

@@ -1,9 +1,8 @@
-use borrow.Author.Rules.{rules, sfits_of}
+use borrow.Author.Rules.{sfits_of}
 use native.Mathlib.Omega.{arith}
 use mathlib.Core.Path.{◌≡◌, sym, ap, ◌∙◌}
-use Prim.Native.Nat.{◌≤◌}
 use Rattle.arithmetic.proofs.Told.{back}
-use Rattle.constants.specs.Lookup.{last_value, known_value, found}
+use Rattle.constants.specs.Lookup.{last_value, found}
 use Rattle.constants.proofs.Search.{hit, miss, known, capped_le}
 use Rattle.constants.proofs.value_of.Goals as goal
 

@@ -1,10 +1,6 @@
-use borrow.Author.Rules.{rules, sfits_of}
-use native.Mathlib.Omega.{arith}
-use mathlib.Core.Path.{◌≡◌, sym, ap, ◌∙◌}
+use mathlib.Core.Path.{◌≡◌}
 use Prim.Native.Nat.{◌≤◌}
-use Rattle.arithmetic.proofs.Told.{back}
-use Rattle.constants.specs.Lookup.{last_value, known_value, found}
-use Rattle.constants.proofs.Search.{hit, miss, known, capped_le}
+use Rattle.constants.specs.Lookup.{last_value, known_value}
 use Rattle.constants.proofs.value_of.Given as goal
 
 abbrev pub invariant-loop-k : goal.invariant-loop-k

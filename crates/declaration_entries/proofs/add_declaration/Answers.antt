@@ -1,4 +1,3 @@
-use borrow.Author.Rules.{rules}
 use mathlib.Core.Path.{refl, ap}
 use Rattle.table.specs.Reply.{step}
 use Rattle.table.proofs.Shown.{call, refuse, held_on}

@@ -1,4 +1,3 @@
-use borrow.Author.Rules.{rules}
 use mathlib.Core.Path.{refl, ap}
 use Rattle.definition.specs.Reader.{declare}
 use Rattle.table.specs.Reply.{step}

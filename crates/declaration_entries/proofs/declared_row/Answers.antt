@@ -1,4 +1,3 @@
-use borrow.Author.Rules.{rules}
 use mathlib.Core.Path.{sym, ◌∙◌}
 use Rattle.definition.specs.Reader.{declared_row}
 use Rattle.table.proofs.Branch.{yes!, nay! }

@@ -1,4 +1,3 @@
-use borrow.Author.Rules.{rules}
 use mathlib.Core.Path.{refl, sym, ap, ◌∙◌}
 use Rattle.definition.specs.Row.{typedef, kind_of, target_of, flags_of, row_name, span_of, extent_of}
 use Rattle.definition.specs.Types.{typedef_row}

@@ -1,5 +1,4 @@
 use borrow.Enum.Refused.{opened}
-use borrow.Author.Rules.{rules}
 use native.Mathlib.Omega.{arith}
 use mathlib.Core.Bool.{false}
 use mathlib.Core.List.{[], ◌∷◌}

@@ -1,4 +1,3 @@
-use borrow.Author.Rules.{rules}
 use mathlib.Core.Path.{refl}
 use Rattle.definition.specs.Reader.{nothing_more}
 use Rattle.table.proofs.Shown.{got!, no! }

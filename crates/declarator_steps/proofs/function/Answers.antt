@@ -1,4 +1,3 @@
-use borrow.Author.Rules.{rules}
 use native.Mathlib.Omega.{arith}
 use Rattle.declarator_steps.specs.Pending.{kept}
 use Rattle.declarator_steps.proofs.Views.{function-kept}

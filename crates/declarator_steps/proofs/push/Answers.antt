@@ -1,8 +1,5 @@
-use borrow.Author.Rules.{rules}
 use native.Mathlib.Omega.{arith}
 use mathlib.Core.Path.{refl}
-use Prim.Native.Nat.{ℕ}
-use borrow.Author.Rules.{length_unmapped}
 use Rattle.declarator_steps.proofs.Views.{pending-is, stored, stars-stay}
 use Rattle.declarator_steps.proofs.push.Goals as goal
 

@@ -1,4 +1,3 @@
-use borrow.Author.Rules.{rules}
 use native.Mathlib.Omega.{arith}
 use Rattle.definition.specs.Row.{qualifier_bits}
 use Rattle.definition_laws.proofs.Bits.{bit-small}

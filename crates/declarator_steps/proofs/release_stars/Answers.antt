@@ -1,10 +1,8 @@
 use native.Mathlib.Omega.{arith}
 use mathlib.Core.Path.{◌≡◌, ap}
-use Prim.Native.Nat.{ℕ}
 use Prim.Native.Nat.{◌-◌}
-use borrow.Author.Rules.{rules, length_unmapped}
 use Rattle.declarator_steps.specs.Pending.{pending, released}
-use Rattle.declarator_steps.proofs.Views.{Releasing, releases, all-released}
+use Rattle.declarator_steps.proofs.Views.{releases, all-released}
 use Rattle.declarator_steps.proofs.release_stars.Goals as goal
 
 pub loop-i-init : goal.loop-i-init

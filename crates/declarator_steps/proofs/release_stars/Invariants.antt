@@ -1,10 +1,5 @@
-use native.Mathlib.Omega.{arith}
-use mathlib.Core.Path.{◌≡◌, ap}
-use Prim.Native.Nat.{ℕ}
 use Prim.Native.Nat.{◌-◌}
-use borrow.Author.Rules.{rules, length_unmapped}
-use Rattle.declarator_steps.specs.Pending.{pending, released}
-use Rattle.declarator_steps.proofs.Views.{Releasing, releases, all-released}
+use Rattle.declarator_steps.proofs.Views.{Releasing}
 use Rattle.declarator_steps.proofs.release_stars.Given as goal
 
 abbrev pub invariant-loop-i : goal.invariant-loop-i

@@ -1,4 +1,3 @@
-use borrow.Author.Rules.{rules}
 use mathlib.Core.Path.{sym}
 use Rattle.declarator_steps.specs.Pending.{step_from, shape_step, qualifiers_of, span_of}
 use Rattle.declarator_steps.proofs.Views.{is_variadic}

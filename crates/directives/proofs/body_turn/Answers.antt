@@ -1,7 +1,4 @@
-use borrow.Author.Rules.{rules}
 use mathlib.Core.Path.{sym, ◌∙◌}
-use Prim.Native.Nat.{◌-◌}
-use Rattle.definition.specs.Scan.{before}
 use Rattle.lemmas.proofs.Branch.{yes, nay, eq_yes, eq_no}
 use Rattle.directives.specs.Turn.{body_turn}
 use Rattle.directives.proofs.body_turn.Goals as goal

@@ -1,6 +1,4 @@
-use borrow.Author.Rules.{rules}
 use mathlib.Core.Path.{sym}
-use Prim.Native.Nat.{◌-◌}
 use Rattle.lemmas.proofs.Branch.{eq_yes, eq_no}
 use Rattle.directives.specs.Turn.{define, define_turn}
 use Rattle.directives.proofs.define_turn.Goals as goal

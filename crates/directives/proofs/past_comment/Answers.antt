@@ -1,8 +1,5 @@
-use borrow.Author.Rules.{rules}
 use native.Mathlib.Omega.{arith}
 use mathlib.Core.Path.{sym, ◌∙◌}
-use Prim.Native.Nat.{◌-◌}
-use Rattle.definition.specs.Scan.{before}
 use native.Mathlib.Nat.{min-eq_left, min-eq_right}
 use Rattle.definition.specs.Comment.{comment_end}
 use Rattle.directives.proofs.past_comment.Goals as goal

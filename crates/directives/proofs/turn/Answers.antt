@@ -1,7 +1,4 @@
-use borrow.Author.Rules.{rules}
 use mathlib.Core.Path.{sym, ◌∙◌}
-use Prim.Native.Nat.{◌-◌}
-use Rattle.definition.specs.Scan.{before}
 use Rattle.lemmas.proofs.Branch.{yes, nay, eq_yes, eq_no, lt_yes, lt_no}
 use Rattle.directives.specs.Turn.{turn}
 use Rattle.directives.proofs.turn.Goals as goal

@@ -1,13 +1,8 @@
-use borrow.Author.Rules.{rules, sfits_of}
+use borrow.Author.Rules.{sfits_of}
 use mir.Facts.{to_z-of_z}
 use native.Mathlib.Omega.{arith}
-use mathlib.Core.Path.{◌≡◌, refl, sym, ◌∙◌}
-use Prim.Native.Nat.{◌-◌}
+use mathlib.Core.Path.{refl, sym, ◌∙◌}
 use lib.IntN.{pos, negsuc}
-use lib.ListN.{length, drop}
-use Rattle.definition.specs.Table.{Table}
-use Rattle.definition.specs.Enumeration.{all_fit}
-use Rattle.table.specs.Held.{InSigneds}
 use Rattle.enum_sizes.proofs.Fits.{less_not, not_less, fit-below, fit-above, fit_on, fit-end}
 use Rattle.enum_sizes.proofs.all_fit.Goals as goal
 

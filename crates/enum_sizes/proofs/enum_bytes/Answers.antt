@@ -1,4 +1,3 @@
-use borrow.Author.Rules.{rules}
 use mathlib.Core.Path.{sym, ◌∙◌}
 use Rattle.enum_sizes.proofs.Fits.{four, eight}
 use Rattle.enum_sizes.proofs.enum_bytes.Goals as goal

@@ -1,4 +1,3 @@
-use borrow.Author.Rules.{rules}
 use Rattle.erasing.proofs.Names.{index-cleared, index-none}
 use Rattle.erasing.proofs.clear_index.Goals as goal
 

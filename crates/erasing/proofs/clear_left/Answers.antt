@@ -1,4 +1,3 @@
-use borrow.Author.Rules.{rules}
 use Rattle.erasing.proofs.Ends.{erased, erased-none}
 use Rattle.erasing.proofs.clear_left.Goals as goal
 

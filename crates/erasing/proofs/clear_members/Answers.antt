@@ -1,4 +1,3 @@
-use borrow.Author.Rules.{rules}
 use native.Mathlib.Omega.{arith}
 use Rattle.erasing.proofs.Blanks.{out_of}
 use Rattle.erasing.proofs.clear_members.Goals as goal

@@ -1,4 +1,3 @@
-use borrow.Author.Rules.{rules}
 use Rattle.erasing.proofs.Ends.{rest_out}
 use Rattle.erasing.proofs.clear_rest.Goals as goal
 

@@ -1,8 +1,4 @@
 use native.Mathlib.Omega.{arith}
-use Prim.Native.Nat.{◌-◌, ◌≤◌}
-use borrow.Author.Rules.{rules}
-use lib.ListN.{length}
-use Rattle.erasing.specs.Taken.{Blank}
 use Rattle.erasing.proofs.Blanks.{blank_none, blank-more, blank-end}
 use Rattle.erasing.proofs.clear_wides.Goals as goal
 

@@ -1,4 +1,3 @@
-use borrow.Author.Rules.{rules}
 use mathlib.Core.Path.{refl, ap}
 use Rattle.definition.specs.Table.{mark_of}
 use Rattle.table.specs.Reply.{step}

@@ -1,9 +1,4 @@
-use borrow.Author.Rules.{rules}
-use mathlib.Core.Path.{◌≡◌, refl, sym, ◌∙◌}
-use Prim.Native.Nat.{◌-◌}
-use lib.ListN.{length}
-use Rattle.definition.specs.Scan.{from}
-use Rattle.keywords.specs.Slots.{spells}
+use mathlib.Core.Path.{sym, ◌∙◌}
 use Rattle.keywords.proofs.Slotted.{spells-end, spells_not, spells-on}
 use Rattle.keywords.proofs.spells.Goals as goal
 

@@ -1,10 +1,8 @@
-use borrow.Author.Rules.{rules}
-use mathlib.Core.Path.{◌≡◌, refl, sym, ◌∙◌}
+use mathlib.Core.Path.{◌≡◌}
 use Prim.Native.Nat.{◌-◌}
 use lib.ListN.{length}
 use Rattle.definition.specs.Scan.{from}
 use Rattle.keywords.specs.Slots.{spells}
-use Rattle.keywords.proofs.Slotted.{spells-end, spells_not, spells-on}
 use Rattle.keywords.proofs.spells.Given as goal
 
 abbrev pub invariant-loop-k : goal.invariant-loop-k

@@ -1,4 +1,3 @@
-use borrow.Author.Rules.{rules}
 use native.Mathlib.Omega.{arith}
 use Rattle.layout_arithmetic.proofs.Sizes.{union-bytes, struct_bytes, struct_out}
 use Rattle.layout_arithmetic.proofs.bytes_taken.Goals as goal

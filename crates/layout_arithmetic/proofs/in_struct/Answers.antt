@@ -1,4 +1,3 @@
-use borrow.Author.Rules.{rules}
 use mathlib.Core.Path.{sym, ◌∙◌}
 use Rattle.layout_arithmetic.proofs.Members.{is_plain, is-zero, is_field}
 use Rattle.layout_arithmetic.proofs.in_struct.Goals as goal

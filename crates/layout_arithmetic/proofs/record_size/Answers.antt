@@ -1,4 +1,3 @@
-use borrow.Author.Rules.{rules}
 use mathlib.Core.Path.{sym, ap, ◌∙◌}
 use Rattle.layout_arithmetic.specs.Outcome.{exact}
 use Rattle.layout_arithmetic.proofs.Told.{is_number, is-small, is-over}

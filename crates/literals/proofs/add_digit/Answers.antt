@@ -1,7 +1,5 @@
-use borrow.Author.Rules.{rules}
 use native.Mathlib.Omega.{arith}
-use Prim.Native.Nat.{◌-◌, ◌^◌}
-use Rattle.definition.specs.Scan.{before}
+use Prim.Native.Nat.{◌^◌}
 use Rattle.literals.proofs.Capped.{over, product, fits}
 use Rattle.literals.proofs.add_digit.Goals as goal
 

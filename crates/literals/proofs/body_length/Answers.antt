@@ -1,11 +1,8 @@
-use borrow.Author.Rules.{rules}
 use borrow.Author.Tests.{not-true, not-false}
 use native.Mathlib.Omega.{arith}
-use mathlib.Core.Path.{◌≡◌, sym, ap, ◌∙◌}
-use Prim.Native.Nat.{◌-◌, ◌≤◌}
-use lib.ListN.{length, take}
+use mathlib.Core.Path.{sym, ap, ◌∙◌}
+use Prim.Native.Nat.{◌-◌}
 use lib.Seq.{take-length}
-use Rattle.definition.specs.Scan.{before}
 use Rattle.definition.specs.Number.{body_length}
 use Rattle.literals.proofs.Digits.{body-goes, body-stops, body-none}
 use Rattle.literals.proofs.body_length.Goals as goal

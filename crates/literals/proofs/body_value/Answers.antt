@@ -1,9 +1,6 @@
-use borrow.Author.Rules.{rules}
 use mathlib.Core.Path.{refl, sym, ◌∙◌}
-use Prim.Native.Nat.{◌-◌}
 use Rattle.definition.specs.Text.{bytes}
 use Rattle.definition.specs.Class.{among}
-use Rattle.definition.specs.Scan.{before}
 use Rattle.scan.proofs.Going.{tail_part}
 use Rattle.literals.proofs.Digits.{base-plain, base_short, base_hex, base_binary, base_octal, with-base}
 use Rattle.literals.proofs.body_value.Goals as goal

@@ -1,7 +1,4 @@
-use borrow.Author.Rules.{rules}
 use mathlib.Core.Path.{sym}
-use Prim.Native.Nat.{◌-◌}
-use Rattle.definition.specs.Scan.{before}
 use Rattle.literals.proofs.Digits.{below_digits, decimal, below_capitals, capital, below-small, small, above}
 use Rattle.literals.proofs.digit_value.Goals as goal
 

@@ -1,12 +1,6 @@
-use borrow.Author.Rules.{rules}
 use native.Mathlib.Omega.{arith}
-use mathlib.Core.Path.{◌≡◌, refl, sym, ap, ◌∙◌}
-use mathlib.Core.Bool.{true}
-use Prim.Native.Nat.{◌-◌, ◌≤◌}
-use lib.ListN.{length, take}
-use Rattle.definition.specs.Scan.{before}
+use mathlib.Core.Path.{refl, sym, ap, ◌∙◌}
 use Rattle.definition.specs.Number.{digit_value, are_digits, value_from}
-use Rattle.literals.specs.Shown.{capped}
 use Rattle.literals.proofs.Digits.{digits_more, digits_bad, digits_none, digits_malformed}
 use Rattle.literals.proofs.Capped.{capped-zero, range-of, range-past, caps-next, all-caps, all_digits}
 use Rattle.literals.proofs.digits_value.Goals as goal

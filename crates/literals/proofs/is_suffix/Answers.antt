@@ -1,5 +1,4 @@
 use mathlib.Core.Path.{refl, sym}
-use Prim.Native.Nat.{◌-◌}
 use Rattle.definition.specs.Text.{bytes}
 use Rattle.definition.specs.Class.{among}
 use Rattle.definition.specs.Number.{suffix_bytes}

@@ -1,9 +1,7 @@
-use borrow.Author.Rules.{rules}
 use mathlib.Core.Path.{sym, ap, ◌∙◌}
-use Prim.Native.Nat.{ℕ, ◌-◌}
+use Prim.Native.Nat.{ℕ}
 use lib.ListN.{take}
 use lib.Seq.{length-take-le}
-use Rattle.definition.specs.Scan.{before}
 use Rattle.definition.specs.Number.{body_value, number_value}
 use Rattle.literals.proofs.Digits.{body-bound}
 use Rattle.literals.proofs.number_value.Goals as goal

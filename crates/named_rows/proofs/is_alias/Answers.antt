@@ -1,4 +1,3 @@
-use borrow.Author.Rules.{rules}
 use Rattle.named_rows.proofs.Searches.{alias_first, alias_second}
 use Rattle.named_rows.proofs.is_alias.Goals as goal
 

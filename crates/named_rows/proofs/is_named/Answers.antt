@@ -1,4 +1,3 @@
-use borrow.Author.Rules.{rules}
 use Rattle.named_rows.proofs.Searches.{other_name, same_name}
 use Rattle.named_rows.proofs.is_named.Goals as goal
 

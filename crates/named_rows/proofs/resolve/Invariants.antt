@@ -1,11 +1,7 @@
-use borrow.Author.Rules.{rules}
-use mathlib.Core.Path.{◌≡◌, refl, sym, ap, ◌∙◌}
-use Prim.Native.Nat.{◌-◌}
-use borrow.Author.Tests.{not-true, not-false}
+use mathlib.Core.Path.{◌≡◌}
 use Rattle.definition.specs.Table.{Table}
 use Rattle.definition.specs.Types.{resolve_within}
 use Rattle.table.specs.Held.{InWords}
-use Rattle.named_rows.proofs.Searches.{resolve-on, resolve-end, resolve-out}
 use Rattle.named_rows.proofs.resolve.Given as goal
 
 abbrev pub invariant-loop-left : goal.invariant-loop-left

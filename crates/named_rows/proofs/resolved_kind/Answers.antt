@@ -1,4 +1,3 @@
-use borrow.Author.Rules.{rules}
 use mathlib.Core.Path.{ap, ◌∙◌}
 use Rattle.definition.specs.Row.{kind_of}
 use Rattle.definition.specs.Table.{row_at}

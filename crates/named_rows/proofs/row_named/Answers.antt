@@ -1,12 +1,6 @@
-use borrow.Author.Rules.{rules}
 use native.Mathlib.Omega.{arith}
-use mathlib.Core.Path.{◌≡◌, sym, ◌∙◌}
-use Prim.Native.Nat.{◌-◌}
-use lib.ListN.{length, drop}
-use Rattle.definition.specs.Table.{Table}
-use Rattle.definition.specs.Types.{row_named}
-use Rattle.table.specs.Held.{InWords, Indexed}
-use Rattle.named_rows.proofs.Searches.{first_row, named_test, named-is, not_named, look-yes, look_no, look-end, look_skip, all_there}
+use mathlib.Core.Path.{sym, ◌∙◌}
+use Rattle.named_rows.proofs.Searches.{named_test, named-is, not_named, look-yes, look_no, look-end, look_skip, all_there}
 use Rattle.named_rows.proofs.row_named.Goals as goal
 
 pub returns-then-w-ne-WORDS : goal.returns-then-w-ne-WORDS

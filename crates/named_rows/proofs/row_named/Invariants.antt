@@ -1,12 +1,10 @@
-use borrow.Author.Rules.{rules}
-use native.Mathlib.Omega.{arith}
-use mathlib.Core.Path.{◌≡◌, sym, ◌∙◌}
+use mathlib.Core.Path.{◌≡◌}
 use Prim.Native.Nat.{◌-◌}
 use lib.ListN.{length, drop}
 use Rattle.definition.specs.Table.{Table}
 use Rattle.definition.specs.Types.{row_named}
 use Rattle.table.specs.Held.{InWords, Indexed}
-use Rattle.named_rows.proofs.Searches.{first_row, named_test, named-is, not_named, look-yes, look_no, look-end, look_skip, all_there}
+use Rattle.named_rows.proofs.Searches.{first_row, named_test}
 use Rattle.named_rows.proofs.row_named.Given as goal
 
 abbrev pub invariant-loop-i : goal.invariant-loop-i

@@ -1,4 +1,3 @@
-use borrow.Author.Rules.{rules}
 use mathlib.Core.Path.{sym, ap, ◌∙◌}
 use mathlib.Core.Option.{none}
 use Rattle.definition.specs.Row.{composite, nothing, kind_of, target_of, flags_of, row_name, span_of, extent_of}

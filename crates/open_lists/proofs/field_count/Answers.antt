@@ -1,12 +1,7 @@
-use borrow.Author.Rules.{rules}
 use native.Mathlib.Omega.{arith}
-use mathlib.Core.Logic.{⊎_elim}
-use mathlib.Core.Path.{◌≡◌, sym, ap, ◌∙◌}
-use Prim.Native.Nat.{◌+◌, ◌-◌, ◌≤◌}
-use lib.ListN.{length, drop}
-use Rattle.definition.specs.Table.{Table, mark_of}
-use Rattle.definition.specs.Composite.{how_many_carry}
-use Rattle.table.specs.Held.{InWords}
+use mathlib.Core.Path.{sym, ap, ◌∙◌}
+use Prim.Native.Nat.{◌+◌}
+use Rattle.definition.specs.Table.{mark_of}
 use Rattle.open_lists.proofs.Changed.{count-hit, count-miss, count-end}
 use Rattle.open_lists.proofs.field_count.Goals as goal
 use Rattle.open_lists.proofs.field_count.Goals.{then-member_row-mark, else-member_row-mark}

@@ -1,13 +1,9 @@
-use borrow.Author.Rules.{rules}
-use native.Mathlib.Omega.{arith}
-use mathlib.Core.Logic.{⊎_elim}
-use mathlib.Core.Path.{◌≡◌, sym, ap, ◌∙◌}
+use mathlib.Core.Path.{◌≡◌}
 use Prim.Native.Nat.{◌+◌, ◌-◌, ◌≤◌}
 use lib.ListN.{length, drop}
-use Rattle.definition.specs.Table.{Table, mark_of}
+use Rattle.definition.specs.Table.{Table}
 use Rattle.definition.specs.Composite.{how_many_carry}
 use Rattle.table.specs.Held.{InWords}
-use Rattle.open_lists.proofs.Changed.{count-hit, count-miss, count-end}
 use Rattle.open_lists.proofs.field_count.Given as goal
 
 abbrev pub invariant-loop-i : goal.invariant-loop-i

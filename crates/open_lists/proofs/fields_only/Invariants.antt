@@ -1,16 +1,12 @@
-use borrow.Author.Rules.{rules}
-use mathlib.Core.Logic.{⊎_elim}
-use mathlib.Core.Path.{◌≡◌, sym, ap, ◌∙◌}
+use mathlib.Core.Path.{◌≡◌}
 use mathlib.Core.Bool.{◌&&◌, not}
 use Prim.Native.Nat.{◌-◌}
 use lib.Dec.{eqb}
 use lib.ListN.{length}
-use Rattle.definition.specs.Table.{mark_of}
-use Rattle.definition.specs.Composite.{is_field, fields_only}
+use Rattle.definition.specs.Composite.{is_field}
 use Rattle.definition.specs.Region.{words_length}
-use Rattle.table.specs.Held.{member_at}
 use Rattle.open_lists.specs.Owning.{member_rerowed}
-use Rattle.open_lists.proofs.Changed.{members, Changing, starts, hit, miss, ends, past, drops, keeps, passes}
+use Rattle.open_lists.proofs.Changed.{members, Changing}
 use Rattle.open_lists.proofs.fields_only.Given as goal
 
 abbrev pub invariant-loop-i : goal.invariant-loop-i

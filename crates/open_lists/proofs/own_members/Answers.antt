@@ -1,4 +1,3 @@
-use borrow.Author.Rules.{rules}
 use Rattle.definition.specs.Table.{mark_of}
 use Rattle.definition.specs.Composite.{own_members}
 use Rattle.open_lists.proofs.Changed.{members, past}

@@ -1,4 +1,3 @@
-use borrow.Author.Rules.{rules}
 use Rattle.definition.specs.Table.{mark_of}
 use Rattle.definition.specs.Enumeration.{own_values}
 use Rattle.open_lists.proofs.Changed.{values, past}

@@ -1,4 +1,3 @@
-use borrow.Author.Rules.{rules}
 use Rattle.definition.specs.Composite.{release_members}
 use Rattle.open_lists.proofs.Changed.{members, released-some, released-none}
 use Rattle.open_lists.proofs.release_members.Goals as goal

@@ -1,4 +1,3 @@
-use borrow.Author.Rules.{rules}
 use Rattle.definition.specs.Enumeration.{release_values}
 use Rattle.open_lists.proofs.Changed.{values, released-some, released-none}
 use Rattle.open_lists.proofs.release_values.Goals as goal

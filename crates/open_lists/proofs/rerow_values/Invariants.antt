@@ -1,12 +1,9 @@
-use borrow.Author.Rules.{rules}
-use mathlib.Core.Logic.{⊎_elim}
-use mathlib.Core.Path.{◌≡◌, sym, ap, ◌∙◌}
+use mathlib.Core.Path.{◌≡◌}
 use Prim.Native.Nat.{◌-◌}
 use lib.Dec.{eqb}
 use lib.ListN.{length}
-use borrow.Author.Tests.{eq-eqb, ne_eqb}
 use Rattle.open_lists.specs.Owning.{value_rerowed}
-use Rattle.open_lists.proofs.Changed.{values, Changing, starts, hit, miss, ends}
+use Rattle.open_lists.proofs.Changed.{values, Changing}
 use Rattle.definition.specs.Region.{words_length}
 use Rattle.open_lists.proofs.rerow_values.Given as goal
 

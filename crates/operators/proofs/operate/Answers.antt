@@ -1,4 +1,3 @@
-use borrow.Author.Rules.{rules}
 use mathlib.Core.Path.{sym, ap, ◌∙◌}
 use Rattle.definition.specs.Range.{exact}
 use Rattle.definition.specs.Arithmetic.{operators, operator_in, operator, left_side}

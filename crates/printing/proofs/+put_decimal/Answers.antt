@@ -1,9 +1,6 @@
-use Prim.Native.Nat.{ℕ, ◌<◌}
-use borrow.Author.Rules.{rules}
 use native.Mathlib.Omega.{arith}
 use mathlib.Core.Path.{sym, ap, ◌∙◌}
 use mathlib.Core.List.{[], ◌∷◌}
-use Prim.Native.Nat.{ℕ, ◌+◌, ◌-◌, ◌<◌}
 use Rattle.printing.proofs.Writing.{same_length as kept, as_is, then}
 use Rattle.printing.proofs.Digits.{one-digit, more_digits}
 use Rattle.printing.proofs.+put_decimal.Goals as goal

@@ -1,5 +1,3 @@
-use borrow.Author.Rules.{rules}
-use Prim.Native.Nat.{◌-◌}
 use Rattle.printing.proofs.Writing.{then}
 use Rattle.arithmetic.proofs.Told.{back}
 use Rattle.printing.proofs.next_signed.Goals as goal

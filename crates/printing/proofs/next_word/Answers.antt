@@ -1,5 +1,3 @@
-use borrow.Author.Rules.{rules}
-use Prim.Native.Nat.{◌-◌}
 use Rattle.printing.proofs.Writing.{then}
 use Rattle.printing.proofs.next_word.Goals as goal
 

@@ -1,6 +1,4 @@
-use borrow.Author.Rules.{rules}
 use native.Mathlib.Omega.{arith}
-use Prim.Native.Nat.{◌-◌}
 use Rattle.printing.proofs.Writing.{stored, counted-on, counted-out}
 use Rattle.printing.proofs.put_byte.Goals as goal
 

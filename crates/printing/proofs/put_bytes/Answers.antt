@@ -1,9 +1,5 @@
-use borrow.Author.Rules.{rules}
-use mathlib.Core.Path.{◌≡◌, refl, ◌∙◌}
-use Prim.Native.Nat.{◌-◌}
-use lib.ListN.{length, drop}
-use Rattle.printing.specs.Written.{buffer, write}
-use Rattle.printing.proofs.Writing.{same_length as kept, Left, all_left, none_left, left_after, next_of}
+use mathlib.Core.Path.{refl, ◌∙◌}
+use Rattle.printing.proofs.Writing.{same_length as kept, all_left, none_left, left_after, next_of}
 use lib.ListN.{drop_of_length-le}
 use Rattle.printing.proofs.put_bytes.Goals as goal
 

@@ -1,10 +1,8 @@
-use borrow.Author.Rules.{rules}
-use mathlib.Core.Path.{◌≡◌, refl, ◌∙◌}
+use mathlib.Core.Path.{◌≡◌}
 use Prim.Native.Nat.{◌-◌}
 use lib.ListN.{length, drop}
 use Rattle.printing.specs.Written.{buffer, write}
-use Rattle.printing.proofs.Writing.{same_length as kept, Left, all_left, none_left, left_after, next_of}
-use lib.ListN.{drop_of_length-le}
+use Rattle.printing.proofs.Writing.{Left}
 use Rattle.printing.proofs.put_bytes.Given as goal
 
 abbrev pub invariant-loop-i : goal.invariant-loop-i

@@ -1,11 +1,9 @@
-use borrow.Author.Rules.{rules}
-use mathlib.Core.Path.{◌≡◌, refl, sym, ap, ◌∙◌}
+use mathlib.Core.Path.{◌≡◌}
 use Prim.Native.Nat.{◌-◌}
 use lib.ListN.{length, take, drop}
 use Rattle.printing.specs.Written.{buffer, write}
-use Rattle.printing.proofs.Writing.{same_length as kept, as_is, Left, none_left, left_after, next_of_part}
+use Rattle.printing.proofs.Writing.{Left}
 use Rattle.definition.specs.Listing.{name_word}
-use Rattle.printing.proofs.Writing.{no_name_lem, a-name, name_done, name-ended}
 use Rattle.printing.proofs.put_name.Given as goal
 
 abbrev pub invariant-loop-i : goal.invariant-loop-i

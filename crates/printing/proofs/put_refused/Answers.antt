@@ -1,5 +1,3 @@
-use borrow.Author.Rules.{rules}
-use Prim.Native.Nat.{◌-◌}
 use Rattle.printing.proofs.Writing.{a-line, a_word, last_word}
 use Rattle.definition.specs.Text.{bytes}
 use Rattle.definition.specs.Listing.{refused_line}

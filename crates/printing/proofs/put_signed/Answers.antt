@@ -1,7 +1,5 @@
-use borrow.Author.Rules.{rules}
 use mathlib.Core.Path.{ap, ◌∙◌}
 use mathlib.Core.List.{[], ◌∷◌, ◌++◌}
-use Prim.Native.Nat.{◌+◌, ◌-◌}
 use Rattle.printing.proofs.Writing.{as_is, then}
 use Rattle.printing.proofs.Digits.{not_negative, negative}
 use Rattle.definition.specs.Listing.{decimal}

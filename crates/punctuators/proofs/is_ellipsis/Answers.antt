@@ -1,12 +1,9 @@
-use borrow.Author.Rules.{rules}
 use borrow.Author.Tests.{eq-eqb, ne_eqb}
 use mathlib.Core.Path.{sym, ap, ◌∙◌}
-use Prim.Native.Nat.{ℕ, ◌+◌, ◌-◌}
+use Prim.Native.Nat.{ℕ, ◌+◌}
 use lib.Dec.{eqb}
 use Rattle.definition.specs.Text.{byte_at}
-use Rattle.definition.specs.Scan.{before}
 use Rattle.lemmas.proofs.Truth.{not_first, not_second}
-use Rattle.scan.proofs.Table.{at}
 use Rattle.punctuators.proofs.is_ellipsis.Goals as goal
 
 pub returns-then-byte_at-ne-DOT : goal.returns-then-byte_at-ne-DOT

@@ -1,14 +1,7 @@
-use borrow.Author.Rules.{rules}
 use native.Mathlib.Omega.{arith}
-use mathlib.Core.Path.{◌≡◌, refl, sym, ap, ◌∙◌}
-use mathlib.Core.Bool.{false}
-use mathlib.Core.Logic.{⊎_elim}
-use Prim.Native.Nat.{ℕ, ◌+◌, ◌-◌}
+use mathlib.Core.Path.{sym, ap, ◌∙◌}
+use Prim.Native.Nat.{ℕ}
 use lib.Dec.{eqb}
-use lib.ListN.{length}
-use Rattle.definition.specs.Scan.{from, before}
-use Rattle.definition.specs.Quoted.{in_quotes}
-use Rattle.scan.proofs.Table.{at}
 use Rattle.punctuators.proofs.Quotes.{quotes_end, quote-closes, quote-skips, quote-goes}
 use Rattle.punctuators.proofs.string_end.Goals as goal
 use Rattle.punctuators.proofs.string_end.Goals.{then-taken, else-taken+else-b-eq-QUOTE}

@@ -1,6 +1,4 @@
-use borrow.Author.Rules.{rules}
 use mathlib.Core.Path.{sym, ap}
-use Prim.Native.Nat.{◌-◌}
 use Rattle.definition.specs.Mark.{two_byte_marks, mark_among}
 use Rattle.punctuators.proofs.Marks.{no_pair}
 use Rattle.punctuators.proofs.two_bytes.Goals as goal

@@ -1,11 +1,7 @@
-use borrow.Author.Rules.{rules}
 use native.Mathlib.Omega.{arith}
-use mathlib.Core.Path.{◌≡◌, refl, sym, ◌∙◌}
-use Prim.Native.Nat.{ℕ, ◌-◌}
-use lib.ListN.{length, drop}
-use Rattle.definition.specs.Table.{Table, carrying}
+use mathlib.Core.Path.{refl, sym, ◌∙◌}
 use Rattle.definition_laws.proofs.Carrying.{carry_skip}
-use Rattle.table.specs.Held.{InWords, no_parameter}
+use Rattle.table.specs.Held.{no_parameter}
 use Rattle.same_entries.proofs.next_parameter.Goals as goal
 
 pub loop-i-init : goal.loop-i-init

@@ -1,11 +1,8 @@
-use borrow.Author.Rules.{rules}
-use native.Mathlib.Omega.{arith}
-use mathlib.Core.Path.{◌≡◌, refl, sym, ◌∙◌}
+use mathlib.Core.Path.{◌≡◌}
 use Prim.Native.Nat.{ℕ, ◌-◌}
 use lib.ListN.{length, drop}
 use Rattle.definition.specs.Table.{Table, carrying}
-use Rattle.definition_laws.proofs.Carrying.{carry_skip}
-use Rattle.table.specs.Held.{InWords, no_parameter}
+use Rattle.table.specs.Held.{InWords}
 use Rattle.same_entries.proofs.next_parameter.Given as goal
 
 abbrev pub invariant-loop-i : goal.invariant-loop-i

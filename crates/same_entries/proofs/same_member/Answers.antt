@@ -1,4 +1,3 @@
-use borrow.Author.Rules.{rules}
 use Rattle.same_entries.proofs.Tests.{member_type_no, member_name_no, member_width_no, member_so}
 use Rattle.same_entries.proofs.same_member.Goals as goal
 

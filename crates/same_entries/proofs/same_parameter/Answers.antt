@@ -1,4 +1,3 @@
-use borrow.Author.Rules.{rules}
 use Rattle.same_entries.proofs.Tests.{type-is, name-is, parameter_type_no, parameter_so}
 use Rattle.same_entries.proofs.same_parameter.Goals as goal
 

@@ -1,13 +1,9 @@
-use borrow.Author.Rules.{rules}
 use borrow.Author.Tests.{not-true, not-false}
 use native.Mathlib.Omega.{arith}
-use mathlib.Core.Path.{◌≡◌, refl, sym, ap, ◌∙◌}
-use Prim.Native.Nat.{◌-◌}
+use mathlib.Core.Path.{refl, sym, ap, ◌∙◌}
 use lib.Dec.{leb}
-use lib.ListN.{length, drop}
-use Rattle.definition.specs.Table.{Table, carrying}
-use Rattle.definition.specs.Types.{pairwise, same_parameter}
-use Rattle.table.specs.Held.{InWords, no_parameter}
+use Rattle.definition.specs.Types.{same_parameter}
+use Rattle.table.specs.Held.{no_parameter}
 use Rattle.same_entries.proofs.Carried.{both_end, second-ends, differ, agree, none_left}
 use Rattle.same_entries.proofs.Tests.{all-parameters, no_more}
 use Rattle.same_entries.proofs.same_parameters.Goals as goal

@@ -1,5 +1,4 @@
 use mir.Syntax.{w64}
-use borrow.Author.Rules.{rules}
 use mathlib.Core.Path.{◌∙◌}
 use borrow.Author.Rules.{sfits_of}
 use mir.Facts.{to_z-of_z}

@@ -1,13 +1,9 @@
-use borrow.Author.Rules.{rules}
 use borrow.Author.Tests.{not-true, not-false}
 use native.Mathlib.Omega.{arith}
-use mathlib.Core.Path.{◌≡◌, refl, sym, ap, ◌∙◌}
-use Prim.Native.Nat.{◌-◌}
+use mathlib.Core.Path.{refl, sym, ap, ◌∙◌}
 use lib.Dec.{leb}
-use lib.ListN.{length, drop}
-use Rattle.definition.specs.Table.{Table, carrying}
-use Rattle.definition.specs.Types.{pairwise, same_value}
-use Rattle.table.specs.Held.{InWords, InSigneds, no_value}
+use Rattle.definition.specs.Types.{same_value}
+use Rattle.table.specs.Held.{no_value}
 use Rattle.same_entries.proofs.Carried.{both_end, second-ends, differ, agree, none_left}
 use Rattle.same_entries.proofs.same_values.Goals as goal
 

@@ -1,14 +1,8 @@
-use borrow.Author.Rules.{rules}
-use borrow.Author.Tests.{not-true, not-false}
-use native.Mathlib.Omega.{arith}
-use mathlib.Core.Path.{◌≡◌, refl, sym, ap, ◌∙◌}
-use Prim.Native.Nat.{◌-◌}
-use lib.Dec.{leb}
+use mathlib.Core.Path.{◌≡◌}
 use lib.ListN.{length, drop}
 use Rattle.definition.specs.Table.{Table, carrying}
 use Rattle.definition.specs.Types.{pairwise, same_value}
-use Rattle.table.specs.Held.{InWords, InSigneds, no_value}
-use Rattle.same_entries.proofs.Carried.{both_end, second-ends, differ, agree, none_left}
+use Rattle.table.specs.Held.{InWords, InSigneds}
 use Rattle.same_entries.proofs.same_values.Given as goal
 
 abbrev pub invariant-loop-k : goal.invariant-loop-k

@@ -1,9 +1,5 @@
-use borrow.Author.Rules.{rules}
 use native.Mathlib.Omega.{arith}
 use mathlib.Core.Path.{◌≡◌, sym, ◌∙◌}
-use Prim.Native.Nat.{◌-◌}
-use Rattle.definition.specs.Scan.{before}
-use Rattle.scan.proofs.Table.{at}
 use Rattle.scan.proofs.Going.{outside, begins-first, begins_not}
 use Rattle.scan.proofs.begins.Goals as goal
 

@@ -1,7 +1,4 @@
-use borrow.Author.Rules.{rules}
 use mathlib.Core.Path.{sym, ◌∙◌}
-use Prim.Native.Nat.{◌-◌}
-use Rattle.definition.specs.Scan.{before}
 use Rattle.scan.proofs.Going.{inside, outside}
 use Rattle.scan.proofs.byte_at.Goals as goal
 

@@ -1,11 +1,5 @@
-use borrow.Author.Rules.{rules}
 use native.Mathlib.Omega.{arith}
-use mathlib.Core.Path.{◌≡◌, refl, sym, ◌∙◌}
-use mathlib.Core.Logic.{⊎_elim}
-use Prim.Native.Nat.{◌+◌, ◌-◌}
-use lib.ListN.{length}
-use Rattle.definition.specs.Scan.{from, before}
-use Rattle.definition.specs.Comment.{ends_comment}
+use mathlib.Core.Path.{refl, sym, ◌∙◌}
 use Rattle.scan.proofs.Going.{comment_closes, comment_plain, comment_star, comment_last}
 use Rattle.scan.proofs.comment_end.Goals as goal
 use Rattle.scan.proofs.comment_end.Goals.{then-wide-eq-STAR+else-wide-eq-SLASH, else-wide-eq-STAR}

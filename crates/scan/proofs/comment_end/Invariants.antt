@@ -1,12 +1,8 @@
-use borrow.Author.Rules.{rules}
-use native.Mathlib.Omega.{arith}
-use mathlib.Core.Path.{◌≡◌, refl, sym, ◌∙◌}
-use mathlib.Core.Logic.{⊎_elim}
+use mathlib.Core.Path.{◌≡◌}
 use Prim.Native.Nat.{◌+◌, ◌-◌}
 use lib.ListN.{length}
 use Rattle.definition.specs.Scan.{from, before}
 use Rattle.definition.specs.Comment.{ends_comment}
-use Rattle.scan.proofs.Going.{comment_closes, comment_plain, comment_star, comment_last}
 use Rattle.scan.proofs.comment_end.Given as goal
 
 abbrev pub invariant-loop-i : goal.invariant-loop-i

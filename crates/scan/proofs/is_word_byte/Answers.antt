@@ -1,4 +1,3 @@
-use borrow.Author.Rules.{rules}
 use mathlib.Core.Path.{sym}
 use Rattle.scan.proofs.Classes.{word_low, word_high, word-past}
 use Rattle.scan.proofs.is_word_byte.Goals as goal

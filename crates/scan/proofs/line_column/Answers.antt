@@ -1,11 +1,6 @@
-use borrow.Author.Rules.{rules}
 use borrow.Author.Tests.{ltb-true, ltb-false}
 use native.Mathlib.Omega.{arith}
-use mathlib.Core.Path.{◌≡◌, refl, sym, ap, ◌∙◌}
-use mathlib.Core.Logic.{⊎_elim}
-use Prim.Native.Nat.{◌+◌, ◌-◌, ◌≤◌}
-use lib.ListN.{length}
-use Rattle.definition.specs.Scan.{before}
+use mathlib.Core.Path.{refl, sym, ap, ◌∙◌}
 use Rattle.definition.specs.Place.{after_all, place_of}
 use Rattle.scan.proofs.Going.{place_end, next-line, next-column}
 use Rattle.scan.proofs.line_column.Goals as goal

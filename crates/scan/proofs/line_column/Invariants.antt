@@ -1,13 +1,7 @@
-use borrow.Author.Rules.{rules}
-use borrow.Author.Tests.{ltb-true, ltb-false}
-use native.Mathlib.Omega.{arith}
-use mathlib.Core.Path.{◌≡◌, refl, sym, ap, ◌∙◌}
-use mathlib.Core.Logic.{⊎_elim}
+use mathlib.Core.Path.{◌≡◌}
 use Prim.Native.Nat.{◌+◌, ◌-◌, ◌≤◌}
 use lib.ListN.{length}
-use Rattle.definition.specs.Scan.{before}
-use Rattle.definition.specs.Place.{after_all, place_of}
-use Rattle.scan.proofs.Going.{place_end, next-line, next-column}
+use Rattle.definition.specs.Place.{place_of}
 use Rattle.scan.proofs.line_column.Given as goal
 
 abbrev pub invariant-loop-i : goal.invariant-loop-i

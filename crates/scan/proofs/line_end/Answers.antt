@@ -1,12 +1,6 @@
-use borrow.Author.Rules.{rules}
 use borrow.Author.Tests.{eq-eqb, ne_eqb}
-use mathlib.Core.Path.{◌≡◌, refl}
-use Prim.Native.Nat.{◌+◌, ◌-◌}
-use lib.ListN.{length}
-use Rattle.definition.specs.Scan.{from, before}
 use Rattle.definition.specs.Comment.{ends_line, line_length}
 use Rattle.definition_laws.proofs.LexerProgress.{first-from}
-use Rattle.scan.proofs.Table.{at}
 use Rattle.scan.proofs.Going.{moves, stops, ends}
 use Rattle.scan.proofs.line_end.Goals as goal
 

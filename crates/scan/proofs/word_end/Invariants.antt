@@ -1,12 +1,8 @@
-use borrow.Author.Rules.{rules}
-use mathlib.Core.Path.{◌≡◌, refl}
+use mathlib.Core.Path.{◌≡◌}
 use Prim.Native.Nat.{◌+◌, ◌-◌}
 use lib.ListN.{length}
 use Rattle.definition.specs.Scan.{from, before}
 use Rattle.definition.specs.Directive.{ends_word}
-use Rattle.definition_laws.proofs.LexerProgress.{first-from}
-use Rattle.scan.proofs.Table.{at}
-use Rattle.scan.proofs.Going.{moves, stops, ends}
 use Rattle.scan.proofs.word_end.Given as goal
 
 abbrev pub invariant-loop-i : goal.invariant-loop-i

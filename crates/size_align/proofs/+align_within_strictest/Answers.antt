@@ -1,18 +1,11 @@
-use Prim.Native.Nat.{ℕ, ◌<◌}
-use borrow.Author.Rules.{rules}
 use native.Mathlib.Omega.{arith}
-use mathlib.Core.Path.{◌≡◌, refl, sym, ap, ◌∙◌}
+use mathlib.Core.Path.{refl, sym, ap, ◌∙◌}
 use mathlib.Core.Option.{some}
-use Prim.Native.Nat.{◌+◌, ◌-◌, ◌*◌}
-use lib.ListN.{length, drop}
-use Rattle.definition.specs.Model.{Model}
-use Rattle.definition.specs.Table.{Table, carrying}
-use Rattle.definition.specs.Align.{or_one, largest, align_within}
-use Rattle.table.specs.Held.{InWords}
-use Rattle.size_align.specs.Measure.{meant, Caps, Extents}
+use Rattle.definition.specs.Align.{or_one}
+use Rattle.size_align.specs.Measure.{meant}
 use Rattle.size_align.proofs.Sized.{extent_of_lem, no_levels, composite-aligned, alias_aligned, own-aligned}
 use Rattle.size_align.proofs.Aligned.{absent, one-meant, larger-meant}
-use Rattle.size_align.proofs.Gathered.{Gathers, begins, gathered, ended, skips, takes}
+use Rattle.size_align.proofs.Gathered.{begins, gathered, ended, skips, takes}
 use Rattle.size_align.proofs.+align_within_strictest.Goals as goal
 
 pub align_within-returns-then-levels-eq0 : goal.align_within-returns-then-levels-eq0

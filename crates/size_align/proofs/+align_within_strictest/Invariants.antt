@@ -1,18 +1,12 @@
-use Prim.Native.Nat.{ℕ, ◌<◌}
-use borrow.Author.Rules.{rules}
-use native.Mathlib.Omega.{arith}
-use mathlib.Core.Path.{◌≡◌, refl, sym, ap, ◌∙◌}
-use mathlib.Core.Option.{some}
+use mathlib.Core.Path.{◌≡◌}
 use Prim.Native.Nat.{◌+◌, ◌-◌, ◌*◌}
 use lib.ListN.{length, drop}
 use Rattle.definition.specs.Model.{Model}
 use Rattle.definition.specs.Table.{Table, carrying}
-use Rattle.definition.specs.Align.{or_one, largest, align_within}
+use Rattle.definition.specs.Align.{largest, align_within}
 use Rattle.table.specs.Held.{InWords}
 use Rattle.size_align.specs.Measure.{meant, Caps, Extents}
-use Rattle.size_align.proofs.Sized.{extent_of_lem, no_levels, composite-aligned, alias_aligned, own-aligned}
-use Rattle.size_align.proofs.Aligned.{absent, one-meant, larger-meant}
-use Rattle.size_align.proofs.Gathered.{Gathers, begins, gathered, ended, skips, takes}
+use Rattle.size_align.proofs.Gathered.{Gathers}
 use Rattle.size_align.proofs.+align_within_strictest.Given as goal
 
 abbrev pub decreases-align_within : goal.decreases-align_within

@@ -1,4 +1,3 @@
-use borrow.Author.Rules.{rules}
 use Rattle.size_align.proofs.Aligned.{caps, told-absent, told-known}
 use Rattle.size_align.proofs.align_of.Goals as goal
 

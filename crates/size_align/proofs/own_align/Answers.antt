@@ -1,4 +1,3 @@
-use borrow.Author.Rules.{rules}
 use mathlib.Core.Path.{refl, sym, ◌∙◌}
 use mathlib.Core.Option.{Option}
 use Prim.Native.Nat.{ℕ}

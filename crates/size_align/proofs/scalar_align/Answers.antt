@@ -1,10 +1,5 @@
-use borrow.Author.Rules.{rules}
-use mathlib.Core.Path.{◌≡◌, refl, sym, ◌∙◌}
+use mathlib.Core.Path.{refl, sym, ◌∙◌}
 use borrow.Author.Tests.{not-false}
-use Rattle.definition.specs.Model.{Model}
-use Rattle.definition.specs.Table.{Table}
-use Rattle.definition.specs.Align.{align_within}
-use Rattle.table.specs.Held.{InWords}
 use Rattle.size_align.proofs.Sized.{extent_of_lem}
 use Rattle.size_align.proofs.Aligned.{goes_by, scalar_by}
 use Rattle.size_align.proofs.scalar_align.Goals as goal

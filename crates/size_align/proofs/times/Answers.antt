@@ -1,5 +1,4 @@
 use Prim.Native.Nat.{◌^◌}
-use borrow.Author.Rules.{rules}
 use native.Mathlib.Omega.{arith}
 use mathlib.Core.Path.{refl}
 use Rattle.size_align.proofs.Told.{known!, big!, none-known, some-big, times-is, too_many, not_too_many}

@@ -1,12 +1,5 @@
-use borrow.Author.Rules.{rules}
-use mathlib.Core.Path.{◌≡◌, refl, sym, ◌∙◌}
-use mathlib.Core.List.{List}
-use Prim.Native.Nat.{ℕ, suc, ◌-◌}
+use mathlib.Core.Path.{refl, sym, ◌∙◌}
 use borrow.Author.Tests.{not-true, not-false}
-use lib.ListN.{length}
-use Rattle.definition.specs.Table.{Table}
-use Rattle.skipping.specs.Passing.{tokens, standing}
-use Rattle.definition.specs.Declarator.{bound_words}
 use Rattle.skipping.proofs.Rounds.{bound-stop, bound-end, bound-on}
 use Rattle.skipping.proofs.bound_words.Goals as goal
 

@@ -1,13 +1,10 @@
-use borrow.Author.Rules.{rules}
-use mathlib.Core.Path.{◌≡◌, refl, sym, ◌∙◌}
+use mathlib.Core.Path.{◌≡◌}
 use mathlib.Core.List.{List}
 use Prim.Native.Nat.{ℕ, suc, ◌-◌}
-use borrow.Author.Tests.{not-true, not-false}
 use lib.ListN.{length}
 use Rattle.definition.specs.Table.{Table}
 use Rattle.skipping.specs.Passing.{tokens, standing}
 use Rattle.definition.specs.Declarator.{bound_words}
-use Rattle.skipping.proofs.Rounds.{bound-stop, bound-end, bound-on}
 use Rattle.skipping.proofs.bound_words.Given as goal
 
 abbrev pub invariant-loop-i : goal.invariant-loop-i

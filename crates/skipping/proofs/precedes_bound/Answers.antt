@@ -1,4 +1,3 @@
-use borrow.Author.Rules.{rules}
 use Rattle.skipping.proofs.precedes_bound.Goals as goal
 
 pub returns : goal.returns

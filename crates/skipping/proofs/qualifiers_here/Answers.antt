@@ -1,12 +1,9 @@
-use borrow.Author.Rules.{rules}
-use mathlib.Core.Path.{◌≡◌, refl, sym, ap, ◌∙◌}
-use mathlib.Core.List.{List}
-use Prim.Native.Nat.{ℕ, suc, ◌+◌, ◌-◌}
+use mathlib.Core.Path.{refl, sym, ap, ◌∙◌}
+use Prim.Native.Nat.{suc, ◌+◌, ◌-◌}
 use borrow.Author.Tests.{not-true, not-false}
 use lib.ListN.{length, get_or}
-use Rattle.definition.specs.Table.{Table}
 use Rattle.skipping.specs.Passing.{tokens, standing}
-use Rattle.definition.specs.Declarator.{qualifiers_from, qualifiers_here}
+use Rattle.definition.specs.Declarator.{qualifiers_from}
 use Rattle.skipping.proofs.Rounds.{said, qualifiers-stop, qualifiers-end, qualifiers-on}
 use Rattle.skipping.proofs.qualifiers_here.Goals as goal
 

@@ -1,13 +1,10 @@
-use borrow.Author.Rules.{rules}
-use mathlib.Core.Path.{◌≡◌, refl, sym, ap, ◌∙◌}
+use mathlib.Core.Path.{◌≡◌}
 use mathlib.Core.List.{List}
-use Prim.Native.Nat.{ℕ, suc, ◌+◌, ◌-◌}
-use borrow.Author.Tests.{not-true, not-false}
-use lib.ListN.{length, get_or}
+use Prim.Native.Nat.{ℕ, suc, ◌-◌}
+use lib.ListN.{length}
 use Rattle.definition.specs.Table.{Table}
 use Rattle.skipping.specs.Passing.{tokens, standing}
 use Rattle.definition.specs.Declarator.{qualifiers_from, qualifiers_here}
-use Rattle.skipping.proofs.Rounds.{said, qualifiers-stop, qualifiers-end, qualifiers-on}
 use Rattle.skipping.proofs.qualifiers_here.Given as goal
 
 abbrev pub invariant-loop-i : goal.invariant-loop-i

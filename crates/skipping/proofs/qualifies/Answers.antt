@@ -1,4 +1,3 @@
-use borrow.Author.Rules.{rules}
 use Rattle.skipping.proofs.qualifies.Goals as goal
 
 pub returns : goal.returns

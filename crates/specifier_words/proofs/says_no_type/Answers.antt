@@ -1,4 +1,3 @@
-use borrow.Author.Rules.{rules}
 use mathlib.Core.Path.{refl}
 use Rattle.specifier_words.specs.Untyped.{says_no_type}
 use Rattle.specifier_words.proofs.says_no_type.Goals as goal

@@ -1,10 +1,5 @@
-use borrow.Author.Rules.{rules}
 use native.Mathlib.Omega.{arith}
-use mathlib.Core.Path.{◌≡◌, refl}
-use Prim.Native.Nat.{◌-◌, ◌≤◌, ◌<◌}
-use lib.ListN.{length}
-use Rattle.definition.specs.Scan.{from, before}
-use Rattle.spellings.specs.Chain.{hashed}
+use mathlib.Core.Path.{refl}
 use Rattle.spellings.proofs.Steps.{hash-more, hash-end}
 use Rattle.spellings.proofs.hash.Goals as goal
 

@@ -1,11 +1,8 @@
-use borrow.Author.Rules.{rules}
-use native.Mathlib.Omega.{arith}
-use mathlib.Core.Path.{◌≡◌, refl}
+use mathlib.Core.Path.{◌≡◌}
 use Prim.Native.Nat.{◌-◌, ◌≤◌, ◌<◌}
 use lib.ListN.{length}
-use Rattle.definition.specs.Scan.{from, before}
+use Rattle.definition.specs.Scan.{from}
 use Rattle.spellings.specs.Chain.{hashed}
-use Rattle.spellings.proofs.Steps.{hash-more, hash-end}
 use Rattle.spellings.proofs.hash.Given as goal
 
 abbrev pub invariant-loop-i : goal.invariant-loop-i

@@ -1,6 +1,4 @@
-use borrow.Author.Rules.{rules}
 use mathlib.Core.Path.{sym, ◌∙◌}
-use Rattle.definition.specs.Scan.{before}
 use Rattle.spellings.proofs.Found.{name-yes, name_no}
 use Rattle.spellings.proofs.is_name_of.Goals as goal
 

@@ -1,4 +1,3 @@
-use borrow.Author.Rules.{rules}
 use Rattle.spellings.proofs.Steps.{bit_past, bit_is}
 use Rattle.spellings.proofs.side.Goals as goal
 

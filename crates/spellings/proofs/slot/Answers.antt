@@ -1,4 +1,3 @@
-use borrow.Author.Rules.{rules}
 use Rattle.spellings.proofs.Steps.{slot-many, slot-few}
 use Rattle.spellings.proofs.slot.Goals as goal
 

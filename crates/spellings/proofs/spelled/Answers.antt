@@ -1,7 +1,5 @@
-use borrow.Author.Rules.{rules}
 use native.Mathlib.Omega.{arith}
 use mathlib.Core.Path.{◌∙◌}
-use Rattle.definition.specs.Scan.{before}
 use Rattle.definition.specs.Name.{offset_of, length_of}
 use Rattle.spellings.proofs.Found.{differs, agrees}
 use Rattle.spellings.proofs.spelled.Goals as goal

@@ -1,10 +1,7 @@
-use borrow.Author.Rules.{rules}
 use native.Mathlib.Omega.{arith}
 use mathlib.Core.Path.{refl, sym, ◌∙◌}
 use Prim.Native.Nat.{ℕ, ◌-◌}
-use lib.ListN.{take}
-use Rattle.definition.specs.Scan.{from}
-use Rattle.spellings.proofs.Steps.{On, on-start, on-next, on-found, on-end}
+use Rattle.spellings.proofs.Steps.{on-start, on-next, on-found, on-end}
 use mathlib.Core.Path.{ap}
 use Prim.Native.Nat.{◌+◌, ◌*◌}
 use Rattle.spellings.proofs.walk.Goals as goal

@@ -1,4 +1,3 @@
-use borrow.Author.Rules.{rules}
 use Rattle.table.proofs.Columns.{declaration-made}
 use Rattle.table.proofs.declaration_at.Goals as goal
 

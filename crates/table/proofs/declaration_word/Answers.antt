@@ -1,4 +1,3 @@
-use borrow.Author.Rules.{rules}
 use native.Mathlib.Omega.{arith}
 use Rattle.table.proofs.Columns.{declaration-past, declaration-read}
 use Rattle.table.proofs.declaration_word.Goals as goal

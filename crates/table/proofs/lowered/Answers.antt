@@ -1,4 +1,3 @@
-use borrow.Author.Rules.{rules}
 use native.Mathlib.Omega.{arith}
 use Rattle.table.proofs.Index.{name_lowered, tag_lowered}
 use borrow.Author.Tests.{eq-eqb, ne_eqb}

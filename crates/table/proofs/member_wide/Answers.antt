@@ -1,4 +1,3 @@
-use borrow.Author.Rules.{rules}
 use native.Mathlib.Omega.{arith}
 use Rattle.table.proofs.Columns.{member_wide_past, member_wide_read}
 use Rattle.table.proofs.member_wide.Goals as goal

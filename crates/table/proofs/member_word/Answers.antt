@@ -1,4 +1,3 @@
-use borrow.Author.Rules.{rules}
 use native.Mathlib.Omega.{arith}
 use Rattle.table.proofs.Columns.{member-past, member-read}
 use Rattle.table.proofs.member_word.Goals as goal

@@ -1,4 +1,3 @@
-use borrow.Author.Rules.{rules}
 use mathlib.Core.Path.{refl}
 use Rattle.table.specs.Held.{half_of}
 use Rattle.table.proofs.Index.{half-below}

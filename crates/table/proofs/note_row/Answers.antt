@@ -1,4 +1,3 @@
-use borrow.Author.Rules.{rules}
 use native.Mathlib.Omega.{arith}
 use Rattle.table.proofs.Index.{note_none, note_new}
 use Rattle.table.proofs.note_row.Goals as goal

@@ -1,4 +1,3 @@
-use borrow.Author.Rules.{rules}
 use Rattle.table.proofs.note_value.Goals as goal
 
 pub returns : goal.returns

@@ -1,4 +1,3 @@
-use borrow.Author.Rules.{rules}
 use native.Mathlib.Omega.{arith}
 use Rattle.table.proofs.Columns.{parameter-past, parameter-read}
 use Rattle.table.proofs.parameter_word.Goals as goal

@@ -1,4 +1,3 @@
-use borrow.Author.Rules.{rules}
 use mathlib.Core.Path.{refl}
 use Rattle.table.proofs.Columns.{extent_past, extent_read}
 use Rattle.table.proofs.row_extent.Goals as goal

@@ -1,4 +1,3 @@
-use borrow.Author.Rules.{rules}
 use native.Mathlib.Omega.{arith}
 use Rattle.table.proofs.Columns.{row-past, row_read}
 use Rattle.table.proofs.row_word.Goals as goal

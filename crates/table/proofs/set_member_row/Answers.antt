@@ -1,4 +1,3 @@
-use borrow.Author.Rules.{rules}
 use Rattle.table.proofs.Leaves.{member_rowed, member-past}
 use Rattle.table.proofs.set_member_row.Goals as goal
 

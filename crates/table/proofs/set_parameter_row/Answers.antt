@@ -1,4 +1,3 @@
-use borrow.Author.Rules.{rules}
 use Rattle.table.proofs.Leaves.{parameter_rowed, parameter-past}
 use Rattle.table.proofs.set_parameter_row.Goals as goal
 

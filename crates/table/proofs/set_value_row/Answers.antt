@@ -1,4 +1,3 @@
-use borrow.Author.Rules.{rules}
 use Rattle.table.proofs.Leaves.{value_rowed, value-past}
 use Rattle.table.proofs.set_value_row.Goals as goal
 

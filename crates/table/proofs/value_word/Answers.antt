@@ -1,4 +1,3 @@
-use borrow.Author.Rules.{rules}
 use native.Mathlib.Omega.{arith}
 use Rattle.table.proofs.Columns.{value-past, value_read}
 use Rattle.table.proofs.value_word.Goals as goal

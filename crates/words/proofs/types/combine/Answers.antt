@@ -1,4 +1,3 @@
-use borrow.Author.Rules.{rules}
 use Rattle.words.specs.Meaning.{known}
 use Rattle.definition.specs.Row.{void, bool, float}
 use Rattle.definition.specs.Specifier.{combine}

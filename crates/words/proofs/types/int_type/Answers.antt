@@ -1,4 +1,3 @@
-use borrow.Author.Rules.{rules}
 use mathlib.Core.Path.{refl}
 use Rattle.words.specs.Meaning.{known}
 use Rattle.definition.specs.Specifier.{int_type}

@@ -1,4 +1,3 @@
-use borrow.Author.Rules.{rules}
 use mathlib.Core.Path.{sym, ◌∙◌}
 use Rattle.words.specs.Meaning.{known}
 use Rattle.words.proofs.Laws.{row!, nothing! }

@@ -1,4 +1,3 @@
-use borrow.Author.Rules.{rules}
 use Rattle.words.specs.Meaning.{known}
 use Rattle.definition.specs.Specifier.{short_type}
 use Rattle.words.proofs.Laws.{row!, nothing! }

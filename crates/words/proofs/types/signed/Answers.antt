@@ -1,4 +1,3 @@
-use borrow.Author.Rules.{rules}
 use Rattle.words.proofs.Laws.{row! }
 use Rattle.words.proofs.types.signed.Goals as goal
 

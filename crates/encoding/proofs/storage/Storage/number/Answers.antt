@@ -1,4 +1,3 @@
-use borrow.Author.Rules.{rules}
 use mathlib.Core.Path.{refl}
 use Rattle.definition.specs.Table.{storage_number}
 use Rattle.encoding.proofs.storage.Storage.number.Goals as goal

@@ -1,4 +1,3 @@
-use borrow.Author.Rules.{rules}
 use native.Mathlib.Omega.{arith}
 use Rattle.definition.specs.Specifier.{total}
 use Rattle.words.proofs.counts.Words.total.Goals as goal

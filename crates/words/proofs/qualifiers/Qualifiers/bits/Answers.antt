@@ -1,4 +1,3 @@
-use borrow.Author.Rules.{rules}
 use native.Mathlib.Omega.{arith}
 use Rattle.words.proofs.Laws.{byte_bit, byte_small}
 use Rattle.definition.specs.Row.{qualifier_bits}

@@ -1,4 +1,3 @@
-use borrow.Author.Rules.{rules}
 use mathlib.Core.Path.{refl}
 use Rattle.definition.specs.Specifier.{names_type}
 use Rattle.words.proofs.specifiers.Specifiers.names_type.Goals as goal

@@ -1,4 +1,3 @@
-use borrow.Author.Rules.{rules}
 use Rattle.words.proofs.Laws.{made}
 use Rattle.words.proofs.specifiers.Specifiers.none.Goals as goal
 

@@ -1,4 +1,3 @@
-use borrow.Author.Rules.{rules}
 use mathlib.Core.Path.{refl}
 use Rattle.words.proofs.Laws.{made}
 use Rattle.words.proofs.specifiers.Specifiers.wording.Goals as goal

@@ -1,4 +1,3 @@
-use borrow.Author.Rules.{rules}
 use Rattle.definition.specs.Row.{kind_of, flags_of, extent_of}
 use Rattle.words.specs.Meaning.{numbers}
 use Rattle.words.proofs.Laws.{byte_bit}
