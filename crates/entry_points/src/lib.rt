@@ -20,7 +20,7 @@ use encoding::regions::{SIGNEDS, WIDES, WORDS};
 use encoding::token_kinds::END;
 use erasing::clear_left;
 use lexer::{Lexing, lex};
-use model::{Model, ModelFound};
+use model::Model;
 use name_table::fill_names;
 use scan::line_column;
 use spellings::{FEW_HEADS, HEADS, LINKS};
@@ -482,7 +482,7 @@ fn read(
 {
     let found = Model::numbered(number);
     match found {
-        ModelFound::Found(m) => {
+        Some(m) => {
             if long_enough(w.len(), d.len(), v.len()) {
                 let r = read_asked(
                     entry,
@@ -497,7 +497,7 @@ fn read(
             }
             reject(text, BAD_CALL, 0)
         }
-        ModelFound::Unknown => reject(text, BAD_CALL, 0),
+        None => reject(text, BAD_CALL, 0),
     }
 }
 

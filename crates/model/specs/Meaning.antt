@@ -1,9 +1,8 @@
 -- What the code's models mean: each is read as a model of the definition.
-use Rattle.std.proofs.Math.Option.{Option, none, some}
+use Rattle.std.specs.Prelude.{Option, Some, None}
+use Rattle.std.proofs.Math.Option as maybe
 use Rattle.definition.specs.Model.{Model as MeantModel}
 use Rattle.model.specs.declared.Model.{Model}
-use Rattle.model.specs.declared.ModelFound.{ModelFound}
-use Rattle.model.specs.declared.ModelFound.TheVariants.{Found, Unknown}
 
 abbrev pub model : Model → MeantModel
 model m = record {
@@ -20,6 +19,7 @@ model m = record {
   enum_size = m.enum_size;
 }
 
-abbrev pub model_found : ModelFound → Option MeantModel
-model_found (Found m) = some (model m)
-model_found Unknown = none
+-- a model, if there is one
+abbrev pub model_found : Option Model → maybe.Option MeantModel
+model_found (Some m) = maybe.some (model m)
+model_found None = maybe.none

@@ -21,12 +21,6 @@ pub struct Model {
     pub enum_size: u64,
 }
 
-#[derive(Clone, Copy)]
-pub enum ModelFound {
-    Found(Model),
-    Unknown,
-}
-
 impl Model {
     // The numbers of the models.
     pub const LP64: u32 = 0;
@@ -81,6 +75,7 @@ impl Model {
     }
 
     // Linux, macOS and the BSDs on a 64-bit machine.
+    #[tactic(auto, unfolding(definition::specs::Model::lp64))]
     pub fn lp64() -> Model
         ensures { model result ≡ lp64 }
     {
@@ -100,6 +95,7 @@ impl Model {
     }
 
     // 32-bit x86 and ARM.
+    #[tactic(auto, unfolding(definition::specs::Model::ilp32))]
     pub fn ilp32() -> Model
         ensures { model result ≡ ilp32 }
     {
@@ -119,6 +115,7 @@ impl Model {
     }
 
     // 64-bit Windows.
+    #[tactic(auto, unfolding(definition::specs::Model::llp64))]
     pub fn llp64() -> Model
         ensures { model result ≡ llp64 }
     {
@@ -138,14 +135,15 @@ impl Model {
     }
 
     // The model of a number, if it has one.
-    pub fn numbered(n: u32) -> ModelFound
+    #[tactic(auto, unfolding(definition::specs::Model::model_of))]
+    pub fn numbered(n: u32) -> Option<Model>
         ensures { model_found result ≡ model_of n }
     {
         match n {
-            Model::LP64 => ModelFound::Found(Model::lp64()),
-            Model::ILP32 => ModelFound::Found(Model::ilp32()),
-            Model::LLP64 => ModelFound::Found(Model::llp64()),
-            _ => ModelFound::Unknown,
+            Model::LP64 => Some(Model::lp64()),
+            Model::ILP32 => Some(Model::ilp32()),
+            Model::LLP64 => Some(Model::llp64()),
+            _ => None,
         }
     }
 }

@@ -1,6 +1,6 @@
 -- From the equation of an entry to what is printed. Assumes nothing.
 use mathlib.Core.Path.{◌≡◌, sym, ap, ◌∙◌}
-use mathlib.Core.Option.{Option}
+use Rattle.std.specs.Option.{Option, Some, None, unwrap_or}
 use mathlib.Core.List.{List}
 use Prim.Native.Nat.{ℕ}
 use lib.IntN.{ℤ}
@@ -12,8 +12,6 @@ use Rattle.definition.specs.Listing.{refused_line, or_lp64, printed_outcome}
 use Rattle.definition_laws.proofs.Call.{outcome-acceptable}
 use Rattle.model.specs.Meaning.{model, model_found}
 use Rattle.model.specs.declared.Model.{Model}
-use Rattle.model.specs.declared.ModelFound.{ModelFound}
-use Rattle.model.specs.declared.ModelFound.TheVariants.{Found, Unknown}
 use Rattle.clearing.specs.Slices.{lent}
 use Rattle.printing.specs.Written.{Wrote}
 use Rattle.entry_points.specs.Answers.{out, shown, answered}
@@ -25,11 +23,9 @@ use Rattle.reports.specs.Printed.{Table, Lists, Answered, Prints}
 
 -- ---- the model of a number
 
-pub model-known : (n : ℕ) (f : ModelFound) (m : Model) → model_found f ≡ model_of n → f ≡ Found m → model m ≡ or_lp64 (model_of n)
-model-known n f m e q = ap {B = MeantModel} (λ (o : Option MeantModel). or_lp64 o) (sym (ap {B = Option MeantModel} model_found q) ∙ e)
-
-pub model-unknown : (n : ℕ) (f : ModelFound) (m : Model) → model_found f ≡ model_of n → f ≡ Unknown → model m ≡ lp64 → model m ≡ or_lp64 (model_of n)
-model-unknown n f m e q l = l ∙ ap {B = MeantModel} (λ (o : Option MeantModel). or_lp64 o) (sym (ap {B = Option MeantModel} model_found q) ∙ e)
+pub model-numbered : (n : ℕ) (f : Option Model) (l : Model) → model_found f ≡ model_of n → model l ≡ lp64 → model (unwrap_or f l) ≡ or_lp64 (model_of n)
+model-numbered n (Some m) l e q = ap or_lp64 e
+model-numbered n None l e q = q ∙ ap or_lp64 e
 
 -- ---- what is printed
 

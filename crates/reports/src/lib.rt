@@ -14,7 +14,7 @@ ghost use Rattle.reports.specs.Printed.{buffer_length, cursor_of, Table, Lists, 
 use encoding::regions::{SIGNEDS, WIDES, WORDS};
 use entry_points::{Counts, Outcome, declaration, translation_unit};
 use listing::put_listing;
-use model::{Model, ModelFound};
+use model::Model;
 use printing::put_refused;
 use table::Cursor;
 
@@ -31,11 +31,7 @@ pub fn listing_buffer() -> [u8; LISTING]
 fn model_numbered(number: u32) -> Model
     ensures { model result ≡ or_lp64 (model_of number) }
 {
-    let found = Model::numbered(number);
-    match found {
-        ModelFound::Found(m) => m,
-        ModelFound::Unknown => Model::lp64(),
-    }
+    Model::numbered(number).unwrap_or(Model::lp64())
 }
 
 fn cursor_of(counts: Counts) -> Cursor

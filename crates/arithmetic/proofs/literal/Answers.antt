@@ -1,10 +1,6 @@
-use borrow.Author.Rules.{sfits_of}
-use native.Mathlib.Omega.{arith}
-use Rattle.arithmetic.proofs.Told.{made, beyond}
+use borrow.Author.Rules.{rules}
+use Rattle.arithmetic.proofs.Told.{converted}
 use Rattle.arithmetic.proofs.literal.Goals as goal
 
-pub returns-then-m-ge-ABOVE_RANGE : goal.returns-then-m-ge-ABOVE_RANGE
-returns-then-m-ge-ABOVE_RANGE c = beyond (record { past = c.if-m-ge-ABOVE_RANGE.true })
-
 pub returns : goal.returns
-returns c = made (sfits_of (omega (arith, c.if-m-ge-ABOVE_RANGE.false)))
+returns c = search (rules, converted)

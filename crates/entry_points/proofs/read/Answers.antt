@@ -28,10 +28,10 @@ pub read_asked-r-requires : goal.read_asked-r-requires
 read_asked-r-requires c = record { asked = asks_own _; encodes = front-fresh _ _ _ c.requires (enough c.args.w.now c.args.d.now c.args.v.now (sym c.long_enough.ensures ∙ c.if-long_enough.true)) }
 
 pub returns-then-long_enough : goal.returns-then-long_enough
-returns-then-long_enough c = answer-known _ _ _ _ _ _ _ _ (ap model_found (sym c.in-Found.is) ∙ c.numbered-found.ensures) (tells_concluded _ _ _ _ _ _ (enough _ _ _ (sym c.long_enough.ensures ∙ c.if-long_enough.true)) c.read_asked-r.ensures _ c.conclude.ensures)
+returns-then-long_enough c = answer-known _ _ _ _ _ _ _ _ (ap model_found (sym c.in-Some.is) ∙ c.numbered-found.ensures) (tells_concluded _ _ _ _ _ _ (enough _ _ _ (sym c.long_enough.ensures ∙ c.if-long_enough.true)) c.read_asked-r.ensures _ c.conclude.ensures)
 
 pub returns-else-long_enough : goal.returns-else-long_enough
-returns-else-long_enough c = answer-known _ _ _ _ _ _ _ _ (ap model_found (sym c.in-Found.is) ∙ c.numbered-found.ensures) (tells_too_short _ _ _ _ _ _ _ (sym c.long_enough.ensures ∙ c.if-long_enough.false) c.reject.ensures)
+returns-else-long_enough c = answer-known _ _ _ _ _ _ _ _ (ap model_found (sym c.in-Some.is) ∙ c.numbered-found.ensures) (tells_too_short _ _ _ _ _ _ _ (sym c.long_enough.ensures ∙ c.if-long_enough.false) c.reject.ensures)
 
-pub returns-in-Unknown : goal.returns-in-Unknown
-returns-in-Unknown c = answer-unknown _ _ _ _ _ _ _ (ap model_found (sym c.in-Unknown.is) ∙ c.numbered-found.ensures) c.reject-in-Unknown.ensures
+pub returns-in-None : goal.returns-in-None
+returns-in-None c = answer-unknown _ _ _ _ _ _ _ (ap model_found (sym c.in-None.is) ∙ c.numbered-found.ensures) c.reject-in-None.ensures

@@ -1,9 +1,0 @@
-use mir.Syntax.{w64}
-use Rattle.definition.specs.Arithmetic.{equal}
-use Rattle.arithmetic.proofs.Bitwise.{same_bits}
-use Rattle.arithmetic.proofs.Told.{made, truth-fits}
-use Rattle.arithmetic.proofs.equal_to.Goals as goal
-
-pub returns : goal.returns
-unfolding equal
-returns c = rw (c.truth_of.ensures, same_bits w64 c.args.a c.args.b c.ranges.a.sfits c.ranges.b.sfits) (made (truth-fits _))
