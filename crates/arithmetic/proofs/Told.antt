@@ -39,6 +39,9 @@ pub value : (z : ℤ) → mag z < 2 ^ 63 → answer (Ok z) ≡ exact (some z)
 unfolding answer exact ranged
 value z p = fun_ext (λ at. rw (yes z p, ranged))
 
+pub held : (z : ℤ) → SFits w64 z → answer (Ok z) ≡ exact (some z)
+held z f = value z f.sfits
+
 -- a value that the machine made from its bits
 pub back : {z : ℤ} → SFits w64 z → to_z w64 (of_z w64 z) ≡ z
 back f = to_z-of_z f
@@ -114,4 +117,4 @@ power w n p =
 
 -- ---- what a test on the machine says
 
-pub ruleset tests = (machine, same_bits, zero_bits)
+pub ruleset tests = (machine, same_bits, zero_bits, held)

@@ -6,13 +6,14 @@ ghost use Rattle.definition.specs.Range.{exact};
 ghost use Rattle.definition.specs.Arithmetic.{precedence, operator, is_prefix, prefixed};
 ghost use Rattle.arithmetic.specs.Outcome.{answer};
 
-use arithmetic::Number;
+use arithmetic::ArithmeticError;
 use encoding::token_kinds::{
     AMPERSAND, AND_AND, BANG, BAR, CARET, EQUAL_EQUAL, GREATER, GREATER_EQUAL, LESS, LESS_EQUAL,
     MINUS, NOT_EQUAL, OR_OR, PERCENT, PLUS, SHIFT_LEFT, SHIFT_RIGHT, SLASH, STAR, TILDE,
 };
 
 // How tightly an operator binds; 0 for what is none.
+#[tactic(auto, unfolding(definition::specs::Arithmetic::precedence, definition::specs::Arithmetic::operator_in, definition::specs::Arithmetic::operators))]
 pub fn precedence_of(kind: u32) -> u32
     ensures { result ≡ precedence kind }
 {
@@ -22,25 +23,18 @@ pub fn precedence_of(kind: u32) -> u32
         BAR => 3,
         CARET => 4,
         AMPERSAND => 5,
-        EQUAL_EQUAL => 6,
-        NOT_EQUAL => 6,
-        LESS => 7,
-        GREATER => 7,
-        LESS_EQUAL => 7,
-        GREATER_EQUAL => 7,
-        SHIFT_LEFT => 8,
-        SHIFT_RIGHT => 8,
-        PLUS => 9,
-        MINUS => 9,
-        STAR => 10,
-        SLASH => 10,
-        PERCENT => 10,
+        EQUAL_EQUAL | NOT_EQUAL => 6,
+        LESS | GREATER | LESS_EQUAL | GREATER_EQUAL => 7,
+        SHIFT_LEFT | SHIFT_RIGHT => 8,
+        PLUS | MINUS => 9,
+        STAR | SLASH | PERCENT => 10,
         _ => 0,
     }
 }
 
 // The value of an operator between two sides; the left side for what is none.
-pub fn operate(kind: u32, a: i64, b: i64) -> Number
+#[tactic(auto, using(arithmetic::proofs::Told::tests), unfolding(definition::specs::Arithmetic::operator, definition::specs::Arithmetic::operator_in, definition::specs::Arithmetic::operators, definition::specs::Arithmetic::left_side))]
+pub fn operate(kind: u32, a: i64, b: i64) -> Result<i64, ArithmeticError>
     ensures { answer result ≡ exact (operator kind a b) }
 {
     match kind {
@@ -62,31 +56,26 @@ pub fn operate(kind: u32, a: i64, b: i64) -> Number
         STAR => arithmetic::mul(a, b),
         SLASH => arithmetic::div(a, b),
         PERCENT => arithmetic::rem(a, b),
-        _ => Number::Value(a),
+        _ => Ok(a),
     }
 }
 
+#[tactic(auto, unfolding(definition::specs::Arithmetic::is_prefix, definition::specs::Arithmetic::prefix_in, definition::specs::Arithmetic::prefixes))]
 pub fn is_prefix(kind: u32) -> bool
     ensures { result ≡ is_prefix kind }
 {
-    match kind {
-        MINUS => true,
-        PLUS => true,
-        TILDE => true,
-        BANG => true,
-        _ => false,
-    }
+    matches!(kind, MINUS | PLUS | TILDE | BANG)
 }
 
-// The value of a prefix before an operand; the operand for what is none.
-pub fn prefix(kind: u32, a: i64) -> Number
+// The value of a prefix before an operand; the operand as it is for `+`, and for what is none.
+#[tactic(auto, using(arithmetic::proofs::Told::tests), unfolding(definition::specs::Arithmetic::prefixed, definition::specs::Arithmetic::prefix_in, definition::specs::Arithmetic::prefixes, definition::specs::Arithmetic::unchanged))]
+pub fn prefix(kind: u32, a: i64) -> Result<i64, ArithmeticError>
     ensures { answer result ≡ exact (some (prefixed kind a)) }
 {
     match kind {
         MINUS => arithmetic::neg(a),
-        PLUS => Number::Value(a),
         TILDE => arithmetic::not(a),
         BANG => arithmetic::is_false(a),
-        _ => Number::Value(a),
+        _ => Ok(a),
     }
 }
