@@ -1,17 +1,15 @@
 -- Laws of a value for which a limit stands where it is too large, for any limit. Assumes nothing.
-use mathlib.Core.Path.{◌≡◌, refl, sym, ◌∙◌}
-use mathlib.Core.Bool.{true}
-use Prim.Native.Nat.{ℕ, ◌+◌, ◌-◌, ◌*◌, ◌/◌, ◌^◌, ◌≤◌, ◌<◌, min}
-use native.Mathlib.Nat.{div-lt_iff_lt-mul, le-div_iff_mul-le, le-mul_of_pos_right, lt_of_not-le}
+use mathlib.Core.Path.{◌≡◌, refl, ◌∙◌}
+use Prim.Native.Nat.{ℕ, ◌+◌, ◌*◌, ◌^◌, ◌≤◌, ◌<◌, min}
+use native.Mathlib.Nat.{le-mul_of_pos_right, lt_of_not-le}
 use native.Mathlib.Decide.{dec_le}
 use native.Mathlib.Omega.{arith}
 use lib.ListN.{length, take, get_or}
-use lib.Seq.{take_all}
 use Rattle.definition.specs.Answer.{got, refused}
-use Rattle.definition.specs.Text.{Bytes, byte_at}
-use Rattle.definition.specs.Number.{digit_value, are_digits, value_from, in_range, digits_value}
+use Rattle.definition.specs.Text.{Bytes}
+use Rattle.definition.specs.Number.{digit_value, value_from, in_range}
 use Rattle.literals.specs.Shown.{capped}
-use Rattle.literals.proofs.Digits.{digits_fine, value-more, in_range_lem, out_of_range}
+use Rattle.literals.proofs.Digits.{value-more, in_range_lem, out_of_range}
 
 -- one digit more
 module _ (limit : ℕ) {base d : ℕ} (small : d < base) where
@@ -45,15 +43,3 @@ range-past c v at e h = out_of_range at v (large e h)
 pub caps-next : {c r d : ℕ} (base : ℕ) (w : Bytes) (i : ℕ) → i < length w → d < base → r ≡ capped (c * base + d) → d ≡ digit_value (get_or w i 0)
     → c ≡ capped (value_from base 0 (take i w)) → r ≡ capped (value_from base 0 (take (i + 1) w))
 caps-next base w i h l a q k = rw (value-more base 0 w i h, ← q) (a ∙ capped-step (2 ^ 63) l _ k)
-
--- after the loop
-module _ (at base : ℕ) (w : Bytes) {c : ℕ} (some : 0 < length w) (i : ℕ) (past : length w ≤ i) (digits : are_digits base (take i w) ≡ true)
-    (value : c ≡ capped (value_from base 0 (take i w))) where
-  read_all : digits_value at base w ≡ in_range at (value_from base 0 (take i w))
-  read_all = rw (take_all i w past) (digits_fine at base w some (rw (take_all i w past) at digits))
-
-  pub digits_got : c < 2 ^ 63 → got c ≡ digits_value at base w
-  digits_got h = sym (read_all ∙ range-of c _ at value h)
-
-  pub digits-past : 2 ^ 63 ≤ c → refused 8 at ≡ digits_value at base w
-  digits-past h = sym (read_all ∙ range-past c _ at value h)

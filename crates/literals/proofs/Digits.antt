@@ -3,19 +3,18 @@ use mathlib.Core.Path.{◌≡◌, refl, sym, ap, ◌∙◌}
 use mathlib.Core.Bool.{Bool, true, false, ◌&&◌}
 use mathlib.Core.List.{[], ◌∷◌, ◌++◌}
 use mathlib.Mathlib.Data.Bool.Basic.{and_intro}
-use Prim.Native.Nat.{ℕ, zero, suc, ◌+◌, ◌-◌, ◌*◌, ◌^◌, ◌≤◌, ◌<◌}
+use Prim.Native.Nat.{ℕ, zero, suc, ◌+◌, ◌*◌, ◌^◌, ◌≤◌, ◌<◌}
 use native.Mathlib.Omega.{arith}
 use native.Mathlib.Numerals.{add-one}
-use borrow.Author.Tests.{le-leb, lt-leb, eq-eqb, ne_eqb}
-use lib.Dec.{leb, ltb, eqb, eqb-suc-zero}
-use lib.ListN.{length, take, drop, get_or}
-use lib.Seq.{take-suc, length-take-le}
+use borrow.Author.Tests.{eq-eqb}
+use lib.Dec.{ltb, eqb, eqb-suc-zero}
+use lib.ListN.{length, take, get_or}
+use lib.Seq.{take-suc}
 use Rattle.definition.specs.Answer.{got, refused}
-use Rattle.definition.specs.Text.{Bytes, bytes, byte_at}
-use Rattle.definition.specs.Class.{between, among}
-use Rattle.definition.specs.Number.{digit_value, suffix_bytes, body_length, are_digits, value_from, in_range, digits_value, base_of, body_value}
-use Rattle.scan.proofs.Past.{apart}
-use Rattle.lemmas.proofs.Branch.{yes, nay, eq_no, lt_yes, lt_no}
+use Rattle.definition.specs.Text.{Bytes}
+use Rattle.definition.specs.Class.{among}
+use Rattle.definition.specs.Number.{digit_value, suffix_bytes, body_length, are_digits, value_from, in_range}
+use Rattle.lemmas.proofs.Branch.{yes, nay, lt_yes, lt_no}
 use Rattle.lemmas.proofs.Truth.{not_first, not_second}
 
 -- what is left of a word: all up to the last byte that is no suffix
@@ -78,19 +77,7 @@ digits_bad base (x ∷ w) (suc i) h k = by (ltb (digit_value x) base) refl (digi
     by true f ih = yes _ _ _ f ∙ ih
     by false f ih = nay _ _ _ f
 
--- the whole of digits
-pub digits_none : (at base : ℕ) (w : Bytes) → length w ≡ 0 → digits_value at base w ≡ refused 6 at
-unfolding digits_value
-digits_none at base w h = nay _ _ _ (not_first _ (lt-leb 1 (length w) (omega arith)))
-
-pub digits_malformed : (at base : ℕ) (w : Bytes) → are_digits base w ≡ false → digits_value at base w ≡ refused 6 at
-unfolding digits_value
-digits_malformed at base w e = nay _ _ _ (not_second (leb 1 (length w)) e)
-
-pub digits_fine : (at base : ℕ) (w : Bytes) → 0 < length w → are_digits base w ≡ true → digits_value at base w ≡ in_range at (value_from base 0 w)
-unfolding digits_value
-digits_fine at base w h e = yes _ _ _ (and_intro (le-leb 1 (length w) h) e)
-
+-- in range
 pub in_range_lem : (at v : ℕ) → v < 2 ^ 63 → in_range at v ≡ got v
 unfolding in_range
 in_range_lem at v h = lt_yes _ _ _ _ h
@@ -98,4 +85,3 @@ in_range_lem at v h = lt_yes _ _ _ _ h
 pub out_of_range : (at v : ℕ) → 2 ^ 63 ≤ v → in_range at v ≡ refused 8 at
 unfolding in_range
 out_of_range at v h = lt_no _ _ _ _ h
-

@@ -54,25 +54,35 @@ pub fn add_digit(v: u64, base: u64, d: u64) -> u64
 }
 
 // The value of digits to a base.
+#[tactic(auto, using(crate::proofs::Digits::digits_bad), unfolding(definition::specs::Number::digits_value, definition::specs::Number::are_digits, definition::specs::Number::value_from, definition::specs::Number::in_range))]
 pub fn digits_value(digits: &[u8], base: u32, at: usize) -> Result<u64, Refusal>
     requires { (0 < base) × (base ≤ 16) }
     ensures { answer result ≡ digits_value at base digits.now }
 {
     if digits.is_empty() {
-        return Err(Refusal { reason: Reason::BadLiteral, at });
+        return Err(Refusal {
+            reason: Reason::BadLiteral,
+            at,
+        });
     }
     let mut v = 0;
     for b in digits {
         let d = digit_value(u32::from(*b));
         if base <= d {
-            return Err(Refusal { reason: Reason::BadLiteral, at });
+            return Err(Refusal {
+                reason: Reason::BadLiteral,
+                at,
+            });
         }
         v = add_digit(v, u64::from(base), u64::from(d));
     }
     if v < ABOVE_RANGE {
         return Ok(v);
     }
-    Err(Refusal { reason: Reason::OutOfRange, at })
+    Err(Refusal {
+        reason: Reason::OutOfRange,
+        at,
+    })
 }
 
 // The value of a number without its suffix.
