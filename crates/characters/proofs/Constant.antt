@@ -67,3 +67,6 @@ module _ (text : Bytes) (start : ℕ) where
           caps = a ∙ capped-step (2 ^ 63) l _ g.caps;
           same = rw (← q) at goes;
         }
+
+-- what a step of the loop gives
+pub ruleset constant = (character_empty, going-starts, going-on)

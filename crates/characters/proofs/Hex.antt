@@ -1,6 +1,6 @@
 -- Laws of \x. Assumes nothing.
 use mathlib.Core.Path.{◌≡◌, refl, sym, ap, ◌∙◌}
-use mathlib.Core.Bool.{true, not}
+use mathlib.Core.Bool.{not}
 use mathlib.Core.List.{[], ◌∷◌}
 use mathlib.Mathlib.Data.Bool.Basic.{and_intro}
 use Prim.Native.Nat.{ℕ, zero, suc, ◌+◌, ◌*◌, ◌%◌, ◌^◌, ◌≤◌, ◌<◌}
@@ -8,7 +8,6 @@ use native.Mathlib.Nat.{le-mul_of_pos_right, add-zero}
 use native.Mathlib.Numerals.{add-one}
 use native.Mathlib.Omega.{arith}
 use borrow.Author.Tests.{le-leb, lt-leb, lt-ltb, le-ltb}
-use lib.Dec.{leb, ltb}
 use lib.ListN.{length, take, drop, get_or, drop_of_length-le}
 use Rattle.definition.specs.Answer.{got, refused}
 use Rattle.definition.specs.Text.{Bytes}

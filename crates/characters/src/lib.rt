@@ -13,10 +13,10 @@ use encoding::refusals::{Reason, Refusal};
 use literals::{add_digit, digit_value};
 use scan::byte_at;
 
-const LETTER_X: u64 = 120;
+const LETTER_X: u64 = b'x' as u64;
 
 // From 2^123 on, one hexadecimal digit more makes it 2^127.
-const HEX_END: u128 = 10633823966279326983230456482242756608;
+const HEX_END: u128 = 1 << 123;
 
 // A byte of the text, as a value.
 pub fn plain(text: &[u8], at: usize) -> u64
@@ -60,13 +60,19 @@ pub fn hex_byte(text: &[u8], start: usize, at: usize) -> Result<(u64, usize), Re
             break;
         }
         if HEX_END <= v {
-            return Err(Refusal { reason: Reason::BadLiteral, at: start });
+            return Err(Refusal {
+                reason: Reason::BadLiteral,
+                at: start,
+            });
         }
         v = v * 16 + u128::from(d);
         next += 1;
     }
     if next == at {
-        return Err(Refusal { reason: Reason::BadLiteral, at: start });
+        return Err(Refusal {
+            reason: Reason::BadLiteral,
+            at: start,
+        });
     }
     Ok(((v % 256) as u64, next))
 }
@@ -79,7 +85,10 @@ pub fn escape(text: &[u8], start: usize, at: usize) -> Result<(u64, usize), Refu
     ensures goes { Goes (at + 1) (length text.now) result }
 {
     if text.len() <= at + 1 {
-        return Err(Refusal { reason: Reason::BadLiteral, at: start });
+        return Err(Refusal {
+            reason: Reason::BadLiteral,
+            at: start,
+        });
     }
     let b = plain(text, at + 1);
     if b == LETTER_X {
@@ -102,6 +111,7 @@ pub fn one_byte(text: &[u8], start: usize, at: usize) -> Result<(u64, usize), Re
 }
 
 // The constant whose opening quote stands at an offset.
+#[tactic(auto, using(crate::proofs::Constant::constant))]
 pub fn character(text: &[u8], start: usize) -> Result<(u64, usize), Refusal>
     requires { start < length text.now }
     ensures value { answer_by read result ≡ character_at text.now start }
@@ -109,7 +119,10 @@ pub fn character(text: &[u8], start: usize) -> Result<(u64, usize), Refusal>
 {
     let mut i = start + 1;
     if byte_at(text, i) == APOSTROPHE {
-        return Err(Refusal { reason: Reason::BadLiteral, at: start });
+        return Err(Refusal {
+            reason: Reason::BadLiteral,
+            at: start,
+        });
     }
     let mut v = 0;
     while i < text.len() {
@@ -117,11 +130,17 @@ pub fn character(text: &[u8], start: usize) -> Result<(u64, usize), Refusal>
             if v < ABOVE_RANGE {
                 return Ok((v, i + 1));
             }
-            return Err(Refusal { reason: Reason::OutOfRange, at: start });
+            return Err(Refusal {
+                reason: Reason::OutOfRange,
+                at: start,
+            });
         }
         let (b, next) = one_byte(text, start, i)?;
         v = add_digit(v, 256, b);
         i = next;
     }
-    Err(Refusal { reason: Reason::BadLiteral, at: start })
+    Err(Refusal {
+        reason: Reason::BadLiteral,
+        at: start,
+    })
 }

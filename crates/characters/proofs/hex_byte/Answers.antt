@@ -24,17 +24,17 @@ loop-b-preserved c = record {
 pub returns-then-next-at-clause-value : goal.returns-then-next-at-clause-value
 returns-then-next-at-clause-value c =
     hex_none c.args.text.now _ _ _ (tail_part c.args.text.now c.args.at) _ _ _ c.loop-b.invariant.read c.loop-b.invariant.next (
-      elim c.loop-b-test.branch [
-        | else-loop-b-test w ↦ hex_end _ _ c.loop-b.invariant.read w.loop-b-test.false
-        | then-loop-b-test+then-d-ge16 w ↦ hex_stop _ _ c.loop-b.invariant.read _ w.loop-b-test.true (w.digit_value-d.ensures ∙ ap digit_value w.from.ensures) w.if-d-ge16.true
-      ])
+    elim c.loop-b-test.branch [
+      | else-loop-b-test w ↦ hex_end _ _ c.loop-b.invariant.read w.loop-b-test.false
+      | then-loop-b-test+then-d-ge16 w ↦ hex_stop _ _ c.loop-b.invariant.read _ w.loop-b-test.true (w.digit_value-d.ensures ∙ ap digit_value w.from.ensures) w.if-d-ge16.true
+    ])
     c.if-next-at.true
 
 pub returns-clause-value : goal.returns-clause-value
 returns-clause-value c =
     hex_fine c.args.text.now _ _ _ (tail_part c.args.text.now c.args.at) _ _ _ c.loop-b.invariant.read c.loop-b.invariant.next (
-      elim c.loop-b-test.branch [
-        | else-loop-b-test w ↦ hex_end _ _ c.loop-b.invariant.read w.loop-b-test.false
-        | then-loop-b-test+then-d-ge16 w ↦ hex_stop _ _ c.loop-b.invariant.read _ w.loop-b-test.true (w.digit_value-d.ensures ∙ ap digit_value w.from.ensures) w.if-d-ge16.true
-      ])
+    elim c.loop-b-test.branch [
+      | else-loop-b-test w ↦ hex_end _ _ c.loop-b.invariant.read w.loop-b-test.false
+      | then-loop-b-test+then-d-ge16 w ↦ hex_stop _ _ c.loop-b.invariant.read _ w.loop-b-test.true (w.digit_value-d.ensures ∙ ap digit_value w.from.ensures) w.if-d-ge16.true
+    ])
     c.if-next-at.false c.loop-b.invariant.small
