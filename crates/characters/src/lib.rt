@@ -13,8 +13,6 @@ use encoding::refusals::{Reason, Refusal};
 use literals::{add_digit, digit_value};
 use scan::byte_at;
 
-const LETTER_X: u64 = b'x' as u64;
-
 // From 2^123 on, one hexadecimal digit more makes it 2^127.
 const HEX_END: u128 = 1 << 123;
 
@@ -84,17 +82,14 @@ pub fn escape(text: &[u8], start: usize, at: usize) -> Result<(u64, usize), Refu
     ensures value { answer_by read result ≡ escape text.now start at }
     ensures goes { Goes (at + 1) (length text.now) result }
 {
-    if text.len() <= at + 1 {
-        return Err(Refusal {
+    match text.get(at + 1) {
+        None => Err(Refusal {
             reason: Reason::BadLiteral,
             at: start,
-        });
+        }),
+        Some(b'x') => hex_byte(text, start, at + 2),
+        Some(b) => Ok((escaped(u64::from(*b)), at + 2)),
     }
-    let b = plain(text, at + 1);
-    if b == LETTER_X {
-        return hex_byte(text, start, at + 2);
-    }
-    Ok((escaped(b), at + 2))
 }
 
 // One byte of a constant.
