@@ -1,28 +1,23 @@
 -- Laws of \x. Assumes nothing.
 use mathlib.Core.Path.{◌≡◌, refl, sym, ap, ◌∙◌}
-use mathlib.Core.Bool.{true, false, not}
+use mathlib.Core.Bool.{not}
+use mathlib.Core.List.{[], ◌∷◌}
 use mathlib.Mathlib.Data.Bool.Basic.{and_intro}
-use Prim.Native.Nat.{ℕ, zero, suc, ◌+◌, ◌*◌, ◌/◌, ◌%◌, ◌^◌, ◌≤◌, ◌<◌}
-use native.Mathlib.Nat.{mul-le-mul_right, le-mul_of_pos_right, mul_assoc, mul-add-mod_self_right, div-add-mod', add-zero, le_trans}
+use Prim.Native.Nat.{ℕ, zero, suc, ◌+◌, ◌*◌, ◌%◌, ◌^◌, ◌≤◌, ◌<◌}
+use native.Mathlib.Nat.{le-mul_of_pos_right, add-zero}
+use native.Mathlib.Numerals.{add-one}
 use native.Mathlib.Omega.{arith}
 use borrow.Author.Tests.{le-leb, lt-leb, lt-ltb, le-ltb}
-use lib.Arith.{digits_lt}
-use lib.Dec.{leb, ltb}
-use lib.ListN.{length, take, length-drop}
-use lib.Seq.{get_or-drop}
+use lib.ListN.{length, take, drop, get_or, drop_of_length-le}
 use Rattle.definition.specs.Answer.{got, refused}
-use Rattle.definition.specs.Text.{Bytes, byte_at}
+use Rattle.definition.specs.Text.{Bytes}
 use Rattle.definition.specs.Scan.{from, before}
 use Rattle.definition.specs.Number.{digit_value, value_from}
 use Rattle.definition.specs.Character.{ends_hex, hex_byte}
-use Rattle.definition_laws.proofs.LexerProgress.{before_le, first-from}
+use Rattle.definition_laws.proofs.LexerProgress.{before_le}
 use Rattle.lemmas.proofs.Branch.{yes, nay}
 use Rattle.lemmas.proofs.Truth.{not_first, not_second}
-use Rattle.scan.proofs.Going.{going}
 use Rattle.literals.proofs.Digits.{value-more}
-use Rattle.literals.specs.declared.Reading.{Reading}
-use Rattle.literals.specs.Shown.{read}
-use Rattle.characters.specs.Reads.{Reads, Closes}
 
 -- values of digits only grow
 value_le : (base : ℕ) (w : Bytes) (m k : ℕ) → 0 < base → m + k ≤ length w → value_from base 0 (take m w) ≤ value_from base 0 (take (m + k) w)
@@ -34,79 +29,78 @@ value_le base w m (suc k) p h =
     let g = le-mul_of_pos_right (value_from base 0 (take (m + k) w)) p in
     rw q (omega arith)
 
--- a value in two parts, for any range of the low one
-from-part : (k part base : ℕ) {high : ℕ} (low d : ℕ) → k ≤ high → k * (part * base) ≤ (high * part + low) * base + d
-from-part k part base low d h = le_trans (mul-le-mul_right (part * base) h) (omega arith)
+-- how many digits stand from a byte on
+hex_goes : (w : Bytes) (i : ℕ) → i < length w → digit_value (get_or w i 0) < 16 → before ends_hex (drop i w) ≡ suc (before ends_hex (drop (suc i) w))
+unfolding before ends_hex
+hex_goes [] i h k = absurd (omega arith)
+hex_goes (x ∷ w) zero h k = nay _ _ _ (ap not (lt-ltb (digit_value x) 16 k))
+hex_goes (x ∷ w) (suc i) h k = hex_goes w i (omega arith) k
 
-last_digits : (k base high low : ℕ) → (high * (k * base) + low) % base ≡ low % base
-last_digits k base high low = rw (← mul_assoc high k base) (mul-add-mod_self_right (high * k) base low)
+hex_stops : (w : Bytes) (i : ℕ) → i < length w → 16 ≤ digit_value (get_or w i 0) → before ends_hex (drop i w) ≡ 0
+unfolding before ends_hex
+hex_stops [] i h k = absurd (omega arith)
+hex_stops (x ∷ w) zero h k = yes _ _ _ (ap not (le-ltb (digit_value x) 16 k))
+hex_stops (x ∷ w) (suc i) h k = hex_stops w i (omega arith) k
 
-shifted : (k base high low d : ℕ) → (high * (k * base) + low) * base + d ≡ (high * base + low / k) * (k * base) + (low % k * base + d)
-shifted k base high low d = let e : low * base ≡ (low / k * k + low % k) * base = ap (λ n. n * base) (sym (div-add-mod' low k)) in omega arith
+hex_ends : (w : Bytes) (i : ℕ) → length w ≤ i → before ends_hex (drop i w) ≡ 0
+unfolding before
+hex_ends w i h = rw (drop_of_length-le w h)
 
-pub hex_stops : (text : Bytes) (i : ℕ) → 16 ≤ digit_value (byte_at text i) → ends_hex (from text i) ≡ true
-unfolding ends_hex
-hex_stops text i h = rw (first-from text i) (ap not (le-ltb (digit_value (byte_at text i)) 16 h))
+-- i digits have been read, of the value v
+pub record HexRead (w : Bytes) (i v : ℕ) : Type 0 where
+  pub left : i + before ends_hex (drop i w) ≡ before ends_hex w
+  pub value : value_from 16 0 (take i w) ≡ v
 
-pub hex_goes : (text : Bytes) (i : ℕ) → digit_value (byte_at text i) < 16 → ends_hex (from text i) ≡ false
-unfolding ends_hex
-hex_goes text i h = rw (first-from text i) (ap not (lt-ltb (digit_value (byte_at text i)) 16 h))
+module _ (w : Bytes) where
+  pub hex-starts : HexRead w 0 0
+  unfolding value_from
+  hex-starts = record { left = omega arith; value = refl }
+
+  module _ (i : ℕ) {v : ℕ} (r : HexRead w i v) where
+    pub hex_next : (d : ℕ) → i < length w → d ≡ digit_value (get_or w i 0) → d < 16 → HexRead w (i + 1) (v * 16 + d)
+    hex_next d h e k = record {
+      left = (let g = hex_goes w i h (rw e at k) in let l = r.left in rw (add-one i) (omega arith));
+      value = value-more 16 0 w i h ∙ rw (r.value, ← e);
+    }
+
+    pub hex_stop : (d : ℕ) → i < length w → d ≡ digit_value (get_or w i 0) → 16 ≤ d → before ends_hex w ≡ i
+    hex_stop d h e k = let g = hex_stops w i h (rw e at k) in let l = r.left in omega arith
+
+    pub hex_end : length w ≤ i → before ends_hex w ≡ i
+    hex_end h = let g = hex_ends w i h in let l = r.left in omega arith
 
 module _ (text : Bytes) (start at : ℕ) where
-  pub hex_none : before ends_hex (from text at) ≡ 0 → hex_byte text start at ≡ refused 6 start
+  -- the value of all the digits
+  abbrev whole : ℕ
+  whole = value_from 16 0 (take (before ends_hex (from text at)) (from text at))
+
+  hex_refused : before ends_hex (from text at) ≡ 0 → refused 6 start ≡ hex_byte text start at
   unfolding hex_byte
-  hex_none e = nay _ _ _ (not_first (ltb (value_from 16 zero (take (before ends_hex (from text at)) (from text at))) (2 ^ 127)) (lt-leb 1 (before ends_hex (from text at)) (omega arith)))
+  hex_refused e = sym (nay _ _ _ (not_first _ (lt-leb 1 (before ends_hex (from text at)) (omega arith))))
 
-  pub hex_large : 2 ^ 127 ≤ value_from 16 zero (take (before ends_hex (from text at)) (from text at)) → hex_byte text start at ≡ refused 6 start
+  hex_got : 0 < before ends_hex (from text at) → whole < 2 ^ 127 → got (record { value = whole % 256; next = at + before ends_hex (from text at) }) ≡ hex_byte text start at
   unfolding hex_byte
-  hex_large h = nay _ _ _ (not_second (leb 1 (before ends_hex (from text at))) (le-ltb _ (2 ^ 127) h))
+  hex_got h k = sym (yes _ _ _ (and_intro (le-leb 1 _ h) (lt-ltb _ (2 ^ 127) k)))
 
-  hex_fine : 0 < before ends_hex (from text at) → value_from 16 zero (take (before ends_hex (from text at)) (from text at)) < 2 ^ 127
-      → hex_byte text start at ≡ got (record { value = value_from 16 zero (take (before ends_hex (from text at)) (from text at)) % 256; next = at + before ends_hex (from text at) })
+  hex_above : 2 ^ 127 ≤ whole → refused 6 start ≡ hex_byte text start at
   unfolding hex_byte
-  hex_fine h k = yes _ _ _ (and_intro (le-leb 1 _ h) (lt-ltb _ (2 ^ 127) k))
+  hex_above h = sym (nay _ _ _ (not_second _ (le-ltb _ (2 ^ 127) h)))
 
-  hex_got : (n v : ℕ) → before ends_hex (from text at) ≡ n → 0 < n → value_from 16 zero (take n (from text at)) ≡ v → v < 2 ^ 127
-      → hex_byte text start at ≡ got (record { value = v % 256; next = at + n })
-  hex_got n v e h q k = rw (e, q) at (hex_fine (omega arith) (rw (e, q) k))
+  module _ (w : Bytes) (is : w ≡ from text at) (i v next : ℕ) (r : HexRead w i v) (to : next ≡ at + i) where
+    pub hex_none : before ends_hex w ≡ i → next ≡ at → refused 6 start ≡ hex_byte text start at
+    hex_none e h = hex_refused (rw is at e ∙ omega arith)
 
-  pub hex_reads : (n low high : ℕ) (r : Reading) → Closes start at n low r → n + before ends_hex (from text (at + n)) ≡ before ends_hex (from text at)
-      → before ends_hex (from text (at + n)) ≡ 0
-      → at + n ≤ length text → value_from 16 0 (take n (from text at)) ≡ high * 2 ^ 64 + low → high < 2 ^ 63 → low < 2 ^ 64
-      → Reads (hex_byte text start at) at (length text) r
-  hex_reads zero low high r k e z f v h l = record {
-    same = ap read (k.none refl) ∙ sym (hex_none (omega arith));
-    goes = λ x next q. let b = k.none refl in let y : ◌≡◌ {A = ℕ} 0 1 = cc in absurd (omega arith);
-  }
-  hex_reads (suc m) low high r k e z f v h l =
-      let b = k.some (omega arith) in
-      let p : (high * 2 ^ 64 + low) % 256 ≡ low % 256 = last_digits (2 ^ 56) 256 high low in
-      record {
-        same = ap read b ∙ sym (rw p at (hex_got (suc m) (high * 2 ^ 64 + low) (omega arith) (omega arith) v (digits_lt h l)));
-        goes = λ x next q. let s : x ≡ low % 256 = cc in let t : next ≡ at + suc m = cc in (omega arith, omega arith, omega arith);
-      }
+    pub hex_fine : before ends_hex w ≡ i → (next ≡ at → ⊥) → v < 2 ^ 127 → got (record { value = v % 256; next = next }) ≡ hex_byte text start at
+    hex_fine e h k =
+        let f = rw is at e in
+        let g = rw is at r.value in
+        rw (f, g, ← to) at (hex_got (omega arith) (rw (f, g) k))
 
-  -- one digit more
-  pub hex_more : (n : ℕ) → at + n < length text → value_from 16 0 (take (n + 1) (from text at)) ≡ value_from 16 0 (take n (from text at)) * 16 + digit_value (byte_at text (at + n))
-  hex_more n h = rw (get_or-drop at text n 256) at (value-more 16 0 (from text at) n (rw (length-drop at text) (omega arith)))
-
-  pub hex_next : (n high low d : ℕ) → at + n < length text → d ≡ digit_value (byte_at text (at + n)) → value_from 16 0 (take n (from text at)) ≡ high * 2 ^ 64 + low
-      → value_from 16 0 (take (n + 1) (from text at)) ≡ (high * 16 + low / 2 ^ 60) * 2 ^ 64 + (low % 2 ^ 60 * 16 + d)
-  hex_next n high low d h e v = hex_more n h ∙ (rw (v, ← e) (shifted (2 ^ 60) 16 high low d))
-
-  pub hex_past : (n : ℕ) → at + n < length text → digit_value (byte_at text (at + n)) < 16 → n + before ends_hex (from text (at + n)) ≡ before ends_hex (from text at)
-      → n + 1 + before ends_hex (from text (at + (n + 1))) ≡ before ends_hex (from text at)
-  hex_past n h d e =
-      let g = going ends_hex text (at + n) h (hex_goes text (at + n) d) in
-      let q : at + n + 1 ≡ at + (n + 1) = omega arith in
-      rw (← q) (omega arith)
-
-  pub hex_too_large : (n low high : ℕ) → at + n < length text → digit_value (byte_at text (at + n)) < 16 → n + before ends_hex (from text (at + n)) ≡ before ends_hex (from text at)
-      → value_from 16 0 (take n (from text at)) ≡ high * 2 ^ 64 + low → 2 ^ 59 ≤ high → hex_byte text start at ≡ refused 6 start
-  hex_too_large n low high h d e v k =
-      let p = hex_past n h d e in
-      let b = before_le ends_hex (from text at) in
-      let q : n + 1 + before ends_hex (from text (at + (n + 1))) ≤ length (from text at) = omega arith in
-      let g = value_le 16 (from text at) (n + 1) (before ends_hex (from text (at + (n + 1)))) (omega arith) q in
-      let m = hex_more n h ∙ ap (λ (z : ℕ). z * 16 + digit_value (byte_at text (at + n))) v in
-      hex_large (rw (← p) (le_trans (rw (← m) at (from-part (2 ^ 59) (2 ^ 64) 16 low (digit_value (byte_at text (at + n))) k)) g))
+    pub hex_large : (d : ℕ) → i < length w → d ≡ digit_value (get_or w i 0) → d < 16 → 2 ^ 123 ≤ v → refused 6 start ≡ hex_byte text start at
+    hex_large d h e k l =
+        let m = hex_next w i r d h e k in
+        let b = before_le ends_hex w in
+        let f = m.left in
+        let g = value_le 16 w (i + 1) (before ends_hex (drop (i + 1) w)) (omega arith) (omega arith) in
+        let y = rw (f, m.value, is) at g in
+        hex_above (omega arith)

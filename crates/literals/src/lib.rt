@@ -3,86 +3,43 @@
 ghost use Rattle.std.specs.Prelude.{◌≡◌, ◌+◌, ◌*◌, ◌≤◌, ◌<◌};
 ghost use Rattle.definition.specs.Class.{among};
 ghost use Rattle.definition.specs.Number.{digit_value, suffix_bytes, body_length, digits_value, body_value, number_value};
-ghost use Rattle.literals.specs.Shown.{value, capped};
+ghost use Rattle.encoding.specs.Refusals.{answer};
+ghost use Rattle.literals.specs.Shown.{capped};
 
 use encoding::range::ABOVE_RANGE;
-use encoding::refusals::{BAD_LITERAL, OUT_OF_RANGE};
-use scan::byte_at;
+use encoding::refusals::{Reason, Refusal};
 
 const NO_DIGIT: u32 = 99;
 
-// The value of a number, or a refusal with its number and offset.
-#[derive(Clone, Copy)]
-pub enum Value {
-    Got(u64),
-    Refused(u32, usize),
-}
-
-// The value of a character constant or a byte of one, and the offset after it, or a refusal with its number and offset.
-#[derive(Clone, Copy)]
-pub enum Reading {
-    Got(u64, usize),
-    Refused(u32, usize),
-}
-
-fn wide(x: u32) -> u64
-    ensures { result ≡ x }
-{
-    x as u64
-}
-
 // The value of a digit.
+#[tactic(auto, unfolding(definition::specs::Number::digit_value))]
 pub fn digit_value(b: u32) -> u32
     ensures { result ≡ digit_value b }
 {
-    if b < 48 {
-        return NO_DIGIT;
+    match b {
+        48..=57 => b - 48,
+        65..=70 => b - 65 + 10,
+        97..=102 => b - 97 + 10,
+        _ => NO_DIGIT,
     }
-    if b <= 57 {
-        return b - 48;
-    }
-    if b < 65 {
-        return NO_DIGIT;
-    }
-    if b <= 70 {
-        return b - 65 + 10;
-    }
-    if b < 97 {
-        return NO_DIGIT;
-    }
-    if b <= 102 {
-        return b - 97 + 10;
-    }
-    NO_DIGIT
 }
 
 // A byte of a suffix: u U l L z Z.
+#[tactic(auto, unfolding(definition::specs::Class::among, definition::specs::Number::suffix_bytes, definition::specs::Text::bytes))]
 pub fn is_suffix(b: u32) -> bool
     ensures { result ≡ among b suffix_bytes }
 {
-    match b {
-        117 => true,
-        85 => true,
-        108 => true,
-        76 => true,
-        122 => true,
-        90 => true,
-        _ => false,
-    }
+    matches!(b, 117 | 85 | 108 | 76 | 122 | 90)
 }
 
 // How many bytes of a word are left without its suffix.
 pub fn body_length(word: &[u8]) -> usize
     ensures { result ≡ body_length word.now }
 {
-    let mut n = word.len();
-    while 0 < n {
-        if !is_suffix(byte_at(word, n - 1)) {
-            return n;
-        }
-        n -= 1;
+    match word.iter().rposition(|b| !is_suffix(u32::from(*b))) {
+        Some(last) => last + 1,
+        None => 0,
     }
-    n
 }
 
 // One digit more, where all that is too large stands as ABOVE_RANGE.
@@ -97,58 +54,54 @@ pub fn add_digit(v: u64, base: u64, d: u64) -> u64
 }
 
 // The value of digits to a base.
-pub fn digits_value(digits: &[u8], base: u32, at: usize) -> Value
+#[tactic(auto, using(crate::proofs::Digits::digits_bad), unfolding(definition::specs::Number::digits_value, definition::specs::Number::are_digits, definition::specs::Number::value_from, definition::specs::Number::in_range))]
+pub fn digits_value(digits: &[u8], base: u32, at: usize) -> Result<u64, Refusal>
     requires { (0 < base) × (base ≤ 16) }
-    ensures { value result ≡ digits_value at base digits.now }
+    ensures { answer result ≡ digits_value at base digits.now }
 {
-    if digits.len() == 0 {
-        return Value::Refused(BAD_LITERAL, at);
+    if digits.is_empty() {
+        return Err(Refusal {
+            reason: Reason::BadLiteral,
+            at,
+        });
     }
     let mut v = 0;
-    let mut i = 0;
-    while i < digits.len() {
-        let d = digit_value(byte_at(digits, i));
+    for b in digits {
+        let d = digit_value(u32::from(*b));
         if base <= d {
-            return Value::Refused(BAD_LITERAL, at);
+            return Err(Refusal {
+                reason: Reason::BadLiteral,
+                at,
+            });
         }
-        v = add_digit(v, wide(base), wide(d));
-        i += 1;
+        v = add_digit(v, u64::from(base), u64::from(d));
     }
     if v < ABOVE_RANGE {
-        return Value::Got(v);
+        return Ok(v);
     }
-    Value::Refused(OUT_OF_RANGE, at)
+    Err(Refusal {
+        reason: Reason::OutOfRange,
+        at,
+    })
 }
 
 // The value of a number without its suffix.
-pub fn body_value(body: &[u8], at: usize) -> Value
-    ensures { value result ≡ body_value at body.now }
+#[tactic(auto, unfolding(definition::specs::Number::body_value, definition::specs::Number::base_of, definition::specs::Class::among, definition::specs::Text::bytes))]
+pub fn body_value(body: &[u8], at: usize) -> Result<u64, Refusal>
+    ensures { answer result ≡ body_value at body.now }
 {
-    if byte_at(body, 0) != 48 {
-        return digits_value(body, 10, at);
+    match body {
+        [b'0', b'x' | b'X', digits @ ..] => digits_value(digits, 16, at),
+        [b'0', b'b' | b'B', digits @ ..] => digits_value(digits, 2, at),
+        [b'0', _, ..] => digits_value(&body[1..], 8, at),
+        _ => digits_value(body, 10, at),
     }
-    if body.len() < 2 {
-        return digits_value(body, 10, at);
-    }
-    let b = byte_at(body, 1);
-    if b == 120 {
-        return digits_value(&body[2..], 16, at);
-    }
-    if b == 88 {
-        return digits_value(&body[2..], 16, at);
-    }
-    if b == 98 {
-        return digits_value(&body[2..], 2, at);
-    }
-    if b == 66 {
-        return digits_value(&body[2..], 2, at);
-    }
-    digits_value(&body[1..], 8, at)
 }
 
 // The value of a number.
-pub fn number_value(word: &[u8], at: usize) -> Value
-    ensures { value result ≡ number_value at word.now }
+#[tactic(auto, unfolding(definition::specs::Number::number_value))]
+pub fn number_value(word: &[u8], at: usize) -> Result<u64, Refusal>
+    ensures { answer result ≡ number_value at word.now }
 {
     let n = body_length(word);
     body_value(&word[..n], at)

@@ -7,6 +7,7 @@ use native.Mathlib.Omega.{arith}
 use lib.Dec.{eqb}
 use lib.ListN.{length, take, length-drop}
 use lib.Seq.{length-take-le}
+use Rattle.std.specs.Str.{bytes_eq}
 use Rattle.definition.specs.Text.{Bytes, same}
 use Rattle.definition.specs.Scan.{from, starts_with}
 use Rattle.definition.specs.Kind.{is_name}
@@ -21,6 +22,18 @@ pub same_refl : (a : Bytes) → same a a ≡ true
 unfolding same
 same_refl [] = refl
 same_refl (x ∷ a) = eq_yes x x (same a a) false refl ∙ same_refl a
+
+-- the comparison of the library is that of the definition
+pub same_bytes : (a b : Bytes) → bytes_eq a b ≡ same a b
+unfolding same
+same_bytes [] [] = refl
+same_bytes [] (y ∷ b) = refl
+same_bytes (x ∷ a) [] = refl
+same_bytes (x ∷ a) (y ∷ b) = by (eqb x y) (same_bytes a b)
+  where
+    by : (t : Bool) → bytes_eq a b ≡ same a b → (t && bytes_eq a b) ≡ elim t as (λ z. Bool) [ true ↦ same a b | false ↦ false ]
+    by true e = e
+    by false e = refl
 
 pub same_not : (a b : Bytes) → (a ≡ b → ⊥) → same a b ≡ false
 same_not a b h = by (same a b) refl

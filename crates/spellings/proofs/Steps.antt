@@ -14,27 +14,6 @@ use Rattle.spellings.specs.Names.{is_name_of}
 use Rattle.spellings.specs.declared.Spot.TheVariants.{Known, Free}
 use Rattle.spellings.specs.Chain.{hashed, HeadCount, few, many, slot, bit_of, branch, Reach, here, there, Keeps, Rising, Walked, met, none}
 
-hash-cons : (h b : ℕ) (bs : Bytes) → hashed h (b ∷ bs) ≡ hashed ((33 * h + b) % 4096) bs
-unfolding hashed
-hash-cons h b bs = refl
-
-pub hash-more : (w : Bytes) (h i b h' whole : ℕ) → i < length w → b ≡ byte_at w i → h' ≡ (33 * h + b) % 4096 → whole ≡ hashed h (from w i) → whole ≡ hashed h' (from w (i + 1))
-hash-more w h i b h' whole p e q r =
-    r ∙ (ap (hashed h) (from_cons w i p) ∙ (hash-cons h (byte_at w i) (from w (i + 1)) ∙ ap (λ (x : ℕ). hashed x (from w (i + 1))) (ap (λ (x : ℕ). (33 * h + x) % 4096) (sym e) ∙ sym q)))
-
-pub hash-end : (w : Bytes) (h i whole : ℕ) → length w ≤ i → whole ≡ hashed h (from w i) → h ≡ whole
-unfolding hashed
-hash-end w h i whole p r = sym (r ∙ ap (hashed h) (from_end w i p))
-
--- the head among many, and among few
-module _ (w : Bytes) (h n : ℕ) (is : h ≡ hashed 0 w) where
-  pub slot-many : h < 4096 → n ≡ 4096 → (h ≡ slot w n) × (h < n)
-  slot-many l e = (rw e (omega (arith, is, l)), omega arith)
-
-  pub slot-few : HeadCount n → (n ≡ 4096 → ⊥) → (h % 64 ≡ slot w n) × (h % 64 < n)
-  slot-few (many e) z = absurd (z e)
-  slot-few (few e) z = (rw e (ap (λ (x : ℕ). x % 64) is), omega arith)
-
 -- a bit of a spelling
 bit-low : (w : Bytes) (d : ℕ) → bit_of w d < 2
 unfolding bit_of
@@ -43,15 +22,6 @@ bit-low w d = by (ltb (length w) (d / 8 + 1)) (byte_at w (length w - (d / 8 + 1)
     by : (t : Bool) (x : ℕ) → elim t as (λ z. ℕ) [ true ↦ 0 | false ↦ x % 2 ] < 2
     by true x = omega arith
     by false x = omega arith
-
-module _ (w : Bytes) (d : ℕ) where
-  pub bit_past : length w < d / 8 + 1 → (0 ≡ bit_of w d) × (0 < 2)
-  unfolding bit_of
-  bit_past h = (sym (lt_yes _ _ _ _ h), omega arith)
-
-  pub bit_is : (b : ℕ) → d / 8 + 1 ≤ length w → b ≡ byte_at w (length w - (d / 8 + 1)) → (b / 2 ^ (d % 8) % 2 ≡ bit_of w d) × (b / 2 ^ (d % 8) % 2 < 2)
-  unfolding bit_of
-  bit_is b h e = (ap (λ (x : ℕ). x / 2 ^ (d % 8) % 2) e ∙ sym (lt_no _ _ _ _ h), omega arith)
 
 -- the walk: at a link and a depth, what is come by from here is come by from the head
 pub record On (text w : Bytes) (ks ns ls : List ℕ) (count heads head s d c : ℕ) : Type 0 where

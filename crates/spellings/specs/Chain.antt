@@ -1,5 +1,6 @@
 -- Trees of the names read so far, one for each hash of a spelling. A link is the index of a token and 1, or 0. Among the links the heads stand first, then two for each token.
 use Rattle.std.specs.Prelude.{◌≡◌, true, false, List, [], ◌∷◌, ℕ, suc, ◌+◌, ◌-◌, ◌*◌, ◌/◌, ◌%◌, ◌^◌, ◌≤◌, ◌<◌, ltb, length, get_or}
+use Rattle.std.specs.List.{fold}
 use Rattle.definition.specs.Text.{Bytes, byte_at}
 use Rattle.definition.specs.Kind.{is_name}
 use Rattle.definition.specs.Limit.{max_text}
@@ -8,9 +9,8 @@ use Rattle.spellings.specs.declared.Spot.TheVariants.{Known, Free}
 use Rattle.spellings.specs.Names.{spelled_by, Inside, is_name_of}
 
 -- any function of the spelling would do
-unfoldable pub hashed : ℕ → Bytes → ℕ
-hashed h [] = h
-hashed h (b ∷ bs) = hashed ((33 * h + b) % 4096) bs
+abbrev pub hashed : Bytes → ℕ
+hashed = fold (λ h b. (33 * h + b) % 4096) 0
 
 -- few heads for a small text, as all heads are cleared before it is read
 pub data HeadCount (n : ℕ) : Type 0 where
@@ -19,7 +19,7 @@ pub data HeadCount (n : ℕ) : Type 0 where
 
 -- the head of a spelling among so many
 abbrev pub slot : Bytes → ℕ → ℕ
-slot w n = hashed 0 w % n
+slot w n = hashed w % n
 
 -- the bit of a spelling that a step at a depth goes by; any function of the two would do
 unfoldable pub bit_of : Bytes → ℕ → ℕ

@@ -33,13 +33,15 @@ pub enum Spot {
 }
 
 // A word that is no keyword.
+#[tactic(auto, unfolding(definition::specs::Kind::is_name))]
 fn is_name(k: u32) -> bool
     ensures { result ≡ is_name k }
 {
-    (IDENTIFIER <= k) & (k <= BOOL_NAME)
+    matches!(k, IDENTIFIER..=BOOL_NAME)
 }
 
 // A name has the spelling from an offset to another.
+#[tactic(auto, using(crate::proofs::Found::same_bytes), unfolding(definition::specs::Name::offset_of, definition::specs::Name::length_of))]
 fn spelled(text: &[u8], n: u64, at: usize, end: usize) -> bool
     requires inside { Inside text.now n }
     requires at_le_end { at ≤ end }
@@ -47,37 +49,29 @@ fn spelled(text: &[u8], n: u64, at: usize, end: usize) -> bool
     ensures { result ≡ same (take (end - at) (from text.now at)) (spelled_by text.now n) }
 {
     let size = (n / NAME_LENGTH) as usize;
-    if size != end - at {
-        return false;
-    }
     let offset = (n % NAME_LENGTH) as usize;
-    starts_with(text, offset, &text[at..end])
+    &text[at..end] == &text[offset..offset + size]
 }
 
 // A token of a kind and a number is the name of that spelling.
+#[tactic(auto, unfolding(crate::specs::Names::is_name_of))]
 fn is_name_of(text: &[u8], k: u32, n: u64, at: usize, end: usize) -> bool
     requires inside { is_name k ≡ true → Inside text.now n }
     requires at_le_end { at ≤ end }
     requires end_in_bounds { end ≤ length text.now }
     ensures { result ≡ is_name_of text.now (take (end - at) (from text.now at)) k n }
 {
-    if is_name(k) {
-        return spelled(text, n, at, end);
-    }
-    false
+    is_name(k) && spelled(text, n, at, end)
 }
 
 // A hash of a spelling.
 fn hash(word: &[u8]) -> usize
-    ensures value { result ≡ hashed 0 word.now }
+    ensures value { result ≡ hashed word.now }
     ensures upper_bound { result < 4096 }
 {
     let mut h = 0;
-    let mut i = 0;
-    while i < word.len() {
-        let b = byte_at(word, i);
-        h = (33 * h + (b as usize)) % HEADS;
-        i += 1;
+    for b in word {
+        h = (33 * h + usize::from(*b)) % HEADS;
     }
     h
 }
@@ -97,16 +91,16 @@ pub fn slot(word: &[u8], heads: usize) -> usize
 
 // The bit of a spelling that a step at a depth goes by, from its last byte on, 0 past its first. Two spellings differ in one, so no walk is longer than the bits of its spelling.
 // Many names begin alike, and a comparison takes as long as they do: from the end they part early.
+#[tactic(auto, unfolding(crate::specs::Chain::bit_of))]
 fn side(word: &[u8], depth: usize) -> usize
     ensures value { result ≡ bit_of word.now depth }
     ensures upper_bound { result < 2 }
 {
     let back = depth / BYTE_BITS + 1;
-    if word.len() < back {
-        return 0;
+    match word.len().checked_sub(back) {
+        Some(i) => usize::from((word[i] >> (depth % BYTE_BITS)) % 2),
+        None => 0,
     }
-    let b = byte_at(word, word.len() - back);
-    ((b >> (depth % BYTE_BITS)) % 2) as usize
 }
 
 // Looks for a spelling in the tree of a head.

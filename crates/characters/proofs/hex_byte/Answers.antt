@@ -1,50 +1,40 @@
 use native.Mathlib.Omega.{arith}
-use native.Mathlib.Nat.{add-zero, zero-add}
-use mathlib.Core.Path.{refl, ap, ◌∙◌}
-use Prim.Native.Nat.{◌+◌}
-use Rattle.definition.specs.Number.{digit_value, value_from}
-use Rattle.definition.specs.Character.{ends_hex}
-use Rattle.scan.proofs.Going.{stopped, ended}
-use Rattle.characters.proofs.Hex.{hex_stops, hex_reads, hex_next, hex_past, hex_too_large}
-use Rattle.characters.proofs.Constant.{reads_refused}
+use mathlib.Core.Path.{ap, ◌∙◌}
+use Rattle.definition.specs.Number.{digit_value}
+use Rattle.scan.proofs.Going.{tail_part}
+use Rattle.characters.proofs.Hex.{hex-starts, hex_next, hex_stop, hex_end, hex_none, hex_fine, hex_large}
 use Rattle.characters.proofs.hex_byte.Goals as goal
+use Rattle.characters.proofs.hex_byte.Goals.{else-loop-b-test, then-loop-b-test+then-d-ge16}
 
-pub loop-n-init : goal.loop-n-init
-unfolding value_from
-loop-n-init c = (omega (arith, c.requires), rw (add-zero c.args.at) (zero-add _), refl, omega arith, omega arith)
+pub loop-b-init : goal.loop-b-init
+loop-b-init c = record { next = omega arith; read = hex-starts _; small = omega arith }
 
-pub hex_done-requires : goal.hex_done-requires
-hex_done-requires c = c.loop-n.invariant.0
+pub returns-then-v-ge-HEX_END-clause-value : goal.returns-then-v-ge-HEX_END-clause-value
+returns-then-v-ge-HEX_END-clause-value c =
+    hex_large c.args.text.now _ _ _ (tail_part c.args.text.now c.args.at) _ _ _ c.loop-b.invariant.read c.loop-b.invariant.next
+    _ c.loop-b-test.true (c.digit_value-d.ensures ∙ ap digit_value c.from.ensures) c.if-d-ge16.false c.if-v-ge-HEX_END.true
 
-pub returns-then-d-ge16 : goal.returns-then-d-ge16
-returns-then-d-ge16 c = let e = c.digit_value-d.ensures ∙ ap digit_value c.byte_at.ensures in
-    hex_reads c.args.text.now _ _ _ _ c.loop-n.high _ c.hex_done.ensures c.loop-n.invariant.1 (stopped ends_hex c.args.text.now (c.args.at + c.loop-n.n) (omega (arith, c.loop-n-test.true)) (hex_stops c.args.text.now (c.args.at + c.loop-n.n) (rw e at c.if-d-ge16.true))) c.loop-n.invariant.0 c.loop-n.invariant.2 c.loop-n.invariant.3 c.loop-n.invariant.4
+pub loop-b-preserved : goal.loop-b-preserved
+loop-b-preserved c = record {
+  next = omega arith;
+  read = hex_next _ _ c.loop-b.invariant.read _ c.loop-b-test.true (c.from-in-loop-b.ensures ∙ (c.digit_value-d.ensures ∙ ap digit_value c.from.ensures)) (omega arith);
+  small = omega arith;
+}
 
-pub returns-then-high-ge-HIGH_END : goal.returns-then-high-ge-HIGH_END
-returns-then-high-ge-HIGH_END c = let e = c.digit_value-d.ensures ∙ ap digit_value c.byte_at.ensures in
-    reads_refused _ (hex_too_large c.args.text.now _ _ c.loop-n.n c.loop-n.low c.loop-n.high (omega (arith, c.loop-n-test.true)) (rw e at c.if-d-ge16.false) c.loop-n.invariant.1 c.loop-n.invariant.2 c.if-high-ge-HIGH_END.true)
+pub returns-then-next-at-clause-value : goal.returns-then-next-at-clause-value
+returns-then-next-at-clause-value c =
+    hex_none c.args.text.now _ _ _ (tail_part c.args.text.now c.args.at) _ _ _ c.loop-b.invariant.read c.loop-b.invariant.next (
+    elim c.loop-b-test.branch [
+      | else-loop-b-test w ↦ hex_end _ _ c.loop-b.invariant.read w.loop-b-test.false
+      | then-loop-b-test+then-d-ge16 w ↦ hex_stop _ _ c.loop-b.invariant.read _ w.loop-b-test.true (w.digit_value-d.ensures ∙ ap digit_value w.from.ensures) w.if-d-ge16.true
+    ])
+    c.if-next-at.true
 
-pub overflow_mul-high : goal.overflow_mul-high
-overflow_mul-high c = record { fits = omega (arith, c.if-high-ge-HIGH_END.false) }
-
-pub overflow_add-high : goal.overflow_add-high
-overflow_add-high c = record { fits = omega (arith, c.if-high-ge-HIGH_END.false, c.loop-n.invariant.4) }
-
-pub overflow_mul-low : goal.overflow_mul-low
-overflow_mul-low c = record { fits = omega arith }
-
-pub overflow_add-low : goal.overflow_add-low
-overflow_add-low c = record { fits = omega (arith, c.wide.ensures, c.if-d-ge16.false) }
-
-pub loop-n-smaller : goal.loop-n-smaller
-loop-n-smaller c = omega (arith, c.loop-n-test.true)
-
-pub loop-n-preserved : goal.loop-n-preserved
-loop-n-preserved c = let e = c.digit_value-d.ensures ∙ ap digit_value c.byte_at.ensures in let d = rw e at c.if-d-ge16.false in let w = c.wide.ensures ∙ e in
-    (omega (arith, c.loop-n-test.true), hex_past c.args.text.now c.args.start c.args.at c.loop-n.n (omega (arith, c.loop-n-test.true)) d c.loop-n.invariant.1, hex_next c.args.text.now c.args.start c.args.at c.loop-n.n _ _ _ (omega (arith, c.loop-n-test.true)) w c.loop-n.invariant.2, omega (arith, c.if-high-ge-HIGH_END.false), omega (arith, c.wide.ensures, c.if-d-ge16.false))
-
-pub hex_done-requires-2 : goal.hex_done-requires-2
-hex_done-requires-2 c = c.loop-n.invariant.0
-
-pub returns : goal.returns
-returns c = hex_reads c.args.text.now _ _ _ _ c.loop-n.high _ c.hex_done-2.ensures c.loop-n.invariant.1 (ended ends_hex c.args.text.now (c.args.at + c.loop-n.n) (omega (arith, c.loop-n-test.false))) c.loop-n.invariant.0 c.loop-n.invariant.2 c.loop-n.invariant.3 c.loop-n.invariant.4
+pub returns-clause-value : goal.returns-clause-value
+returns-clause-value c =
+    hex_fine c.args.text.now _ _ _ (tail_part c.args.text.now c.args.at) _ _ _ c.loop-b.invariant.read c.loop-b.invariant.next (
+    elim c.loop-b-test.branch [
+      | else-loop-b-test w ↦ hex_end _ _ c.loop-b.invariant.read w.loop-b-test.false
+      | then-loop-b-test+then-d-ge16 w ↦ hex_stop _ _ c.loop-b.invariant.read _ w.loop-b-test.true (w.digit_value-d.ensures ∙ ap digit_value w.from.ensures) w.if-d-ge16.true
+    ])
+    c.if-next-at.false c.loop-b.invariant.small
