@@ -5,11 +5,11 @@ use Rattle.declarator_steps.specs.Pending.{pending, released}
 use Rattle.declarator_steps.proofs.Views.{releases, all-released}
 use Rattle.declarator_steps.proofs.release_stars.Goals as goal
 
-pub loop-i-init : goal.loop-i-init
-loop-i-init c = let e : c.args.n ≡ c.args.n - 0 = omega arith in record { sofar = omega arith; stars = omega arith; apart = omega arith; kinds-long = c.well_formed.0.1.1.0.1.0.1; operands_long = c.well_formed.0.1.1.1.0.1.0.1; same = ap (λ m. released m (pending c.args.s)) e }
+pub loop-init : goal.loop-init
+loop-init c = let e : c.args.n ≡ c.args.n - 0 = omega arith in record { sofar = omega arith; stars = omega arith; apart = omega arith; kinds-long = c.well_formed.0.1.1.0.1.0.1; operands_long = c.well_formed.0.1.1.1.0.1.0.1; same = ap (λ m. released m (pending c.args.s)) e }
 
-pub loop-i-preserved : goal.loop-i-preserved
-loop-i-preserved c = releases c.args.n c.loop-i.i c.args.s c.loop-i.t c.loop-i.invariant c.loop-i-test.true
+pub loop-preserved : goal.loop-preserved
+loop-preserved c = releases c.args.n c.loop.counter c.args.s c.loop.s c.loop.invariant c.loop-test.true
 
 pub returns : goal.returns
-returns c = all-released c.args.n c.loop-i.i c.args.s c.loop-i.t c.loop-i.invariant c.loop-i-test.false
+returns c = all-released c.args.n c.loop.counter c.args.s c.loop.s c.loop.invariant c.loop-test.false
