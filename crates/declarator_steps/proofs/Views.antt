@@ -1,25 +1,20 @@
 -- How the views change with the entries. Assumes nothing.
 use mathlib.Core.Path.{◌≡◌, refl, sym, ap, ◌∙◌}
 use mathlib.Core.List.{List, [], ◌∷◌}
-use mathlib.Core.Bool.{Bool, true, false}
 use mathlib.Core.Option.{Option, none, some}
 use Prim.Native.Nat.{ℕ, zero, suc, ◌+◌, ◌-◌, ◌*◌, ◌^◌, ◌≤◌, ◌<◌}
 use native.Mathlib.Omega.{arith}
 use native.Mathlib.Numerals.{add-one}
 use lib.ListN.{length, get_or, set, take, length-set, length-drop}
-use native.Mathlib.Nat.{lt_of_not-le, mul_comm}
-use native.Mathlib.Decide.{dec_le}
+use native.Mathlib.Nat.{mul_comm}
 use lib.Arith.{digits_div, digits_mod}
-use lib.Dec.{eqb, leb}
 use lib.Seq.{get_or-set_same, get_or-set_other, length-take-le}
-use borrow.Author.Tests.{le-leb, lt-leb, ne_eqb}
 use Rattle.definition.specs.Limit.{max_steps}
-use Rattle.definition.specs.Row.{Qualifiers, Span, qualifier_bits}
-use Rattle.definition.specs.Grammar.{DeclaratorStep, pointer_step, array_step, function_step}
+use Rattle.definition.specs.Row.{Qualifiers}
+use Rattle.definition.specs.Grammar.{DeclaratorStep, pointer_step, array_step}
 use Rattle.definition.specs.Declarator.{starred}
-use Rattle.lemmas.proofs.Branch.{nay}
 use Rattle.words.specs.Meaning.{qualifiers_in}
-use Rattle.declarator_steps.specs.Pending.{pointer_kind, array_kind, bounded_kind, function_kind, span_of, step_from, step_of, step_in, kept, steps_from, stars_from, Pending, pending, none_pending, no_steps, with_step, with_star, released}
+use Rattle.declarator_steps.specs.Pending.{pointer_kind, span_of, step_from, step_of, kept, steps_from, stars_from, Pending, pending, none_pending, no_steps, with_step, with_star, released}
 use Rattle.declarator_steps.specs.declared.Step.{Step}
 use Rattle.declarator_steps.specs.declared.Steps.{Steps}
 
@@ -90,12 +85,6 @@ pub span_is : (first count : ℕ) → count < 2 ^ 32 → span_of (2 ^ 32 * first
 unfolding span_of
 span_is first count h = rw (mul_comm (2 ^ 32) first, digits_div first {m = 2 ^ 32} h, digits_mod first {m = 2 ^ 32} h)
 
--- a kind that is no other is a variadic function
-pub is_variadic : (k o : ℕ) → (k ≡ pointer_kind → ⊥) → (k ≡ array_kind → ⊥) → (k ≡ bounded_kind → ⊥) → (k ≡ function_kind → ⊥) → step_from k o ≡ function_step true (span_of o)
-unfolding step_from
-is_variadic k o a b c d = nay (eqb k pointer_kind) _ _ (ne_eqb k pointer_kind a) ∙ nay (eqb k array_kind) _ _ (ne_eqb k array_kind b)
-    ∙ nay (eqb k bounded_kind) _ _ (ne_eqb k bounded_kind c) ∙ nay (eqb k function_kind) _ _ (ne_eqb k function_kind d)
-
 -- ---- for callers: what is kept means the step that it keeps
 
 pub array-kept : (o : Option ℕ) {x : Step} → x ≡ kept (array_step o) → step_of x ≡ array_step o
@@ -103,27 +92,9 @@ unfolding kept step_from
 array-kept none e = ap step_of e
 array-kept (some n) e = ap step_of e
 
-pub function-kept : (v : Bool) (e : Span) {x : Step} → e.count < 2 ^ 32 → x ≡ kept (function_step v e) → step_of x ≡ function_step v e
-unfolding kept step_from
-function-kept true e h p = ap step_of p ∙ ap (function_step true) (span_is e.first e.count h)
-function-kept false e h p = ap step_of p ∙ ap (function_step false) (span_is e.first e.count h)
-
--- the step of an entry is the next one
-pub step-next : (ks os : List ℕ) (n : ℕ) {x : Step} → x ≡ step_in ks os n → steps_from ks os (n + 1) ≡ step_of x ∷ steps_from ks os n
-step-next ks os n e = steps_more ks os n ∙ ap (λ y. step_of y ∷ steps_from ks os n) (sym e)
-
 pub none-pending : {s : Steps} → s ≡ no_steps → pending s ≡ none_pending
 unfolding steps_from stars_from
 none-pending e = ap pending e
-
--- ---- room
-
-pub full_is : (len held : ℕ) → len < max_steps → leb (max_steps - len) held ≡ leb max_steps (held + len)
-full_is len held h = go (dec_le max_steps (held + len))
-  where
-    go : Dec (max_steps ≤ held + len) → leb (max_steps - len) held ≡ leb max_steps (held + len)
-    go (yes p) = le-leb (max_steps - len) held (omega arith) ∙ sym (le-leb max_steps (held + len) p)
-    go (no p) = let q = lt_of_not-le p in lt-leb (max_steps - len) held (omega arith) ∙ sym (lt-leb max_steps (held + len) q)
 
 -- ---- both at once
 

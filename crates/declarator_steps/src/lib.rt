@@ -48,131 +48,127 @@ pub struct Steps {
     pub held: usize,
 }
 
-#[tactic(auto, unfolding(crate::specs::Pending::steps_from, crate::specs::Pending::stars_from))]
-pub fn empty() -> Steps
-    ensures kept { result ≡ no_steps }
-    ensures means { pending result ≡ none_pending }
-{
-    Steps {
-        kinds: [0; Model::MAX_STEPS],
-        operands: [0; Model::MAX_STEPS],
-        len: 0,
-        held: 0,
-    }
-}
-
-// There is no room for one more.
-pub fn is_full(len: usize, held: usize) -> bool
-    ensures { result ≡ leb max_steps (held + len) }
-{
-    Model::MAX_STEPS.saturating_sub(len) <= held
-}
-
-#[tactic(auto, unfolding(crate::specs::Pending::kept, crate::specs::Pending::step_from))]
-pub fn unbounded() -> Step
-    ensures kept { result ≡ kept (array_step none) }
-    ensures means { step_of result ≡ array_step none }
-{
-    Step {
-        kind: ARRAY,
-        operand: 0,
-    }
-}
-
-#[tactic(auto, unfolding(crate::specs::Pending::kept, crate::specs::Pending::step_from))]
-pub fn bounded(bound: u64) -> Step
-    ensures kept { result ≡ kept (array_step (some bound)) }
-    ensures means { step_of result ≡ array_step (some bound) }
-{
-    Step {
-        kind: BOUNDED,
-        operand: bound,
-    }
-}
-
-// A function whose parameters stand from entry `first` on.
 #[tactic(auto, using(crate::proofs::Views::span_is), unfolding(crate::specs::Pending::kept, crate::specs::Pending::step_from))]
-pub fn function(varargs: bool, first: u32, count: u32) -> Step
-    ensures kept { result ≡ kept (function_step varargs (record { first = first; count = count })) }
-    ensures means { step_of result ≡ function_step varargs (record { first = first; count = count }) }
-{
-    Step {
-        kind: if varargs { VARIADIC } else { FUNCTION },
-        operand: FIRST_UNIT * u64::from(first) + u64::from(count),
+impl Step {
+    pub fn unbounded() -> Step
+        ensures kept { result ≡ kept (array_step none) }
+        ensures means { step_of result ≡ array_step none }
+    {
+        Step {
+            kind: ARRAY,
+            operand: 0,
+        }
     }
-}
 
-// A step told apart.
-#[tactic(auto, unfolding(crate::specs::Pending::step_from, crate::specs::Pending::shape_step, crate::specs::Pending::span_of))]
-pub fn shape_of(x: Step) -> Shape
-    ensures { shape_step result ≡ step_of x }
-{
-    let kind = x.kind;
-    let operand = x.operand;
-    match kind {
-        POINTER => Shape::Pointer(Qualifiers::from_bits(operand)),
-        ARRAY => Shape::Array,
-        BOUNDED => Shape::Bounded(operand),
-        _ => {
-            let first = (operand / FIRST_UNIT) as u32;
-            let count = (operand % FIRST_UNIT) as u32;
-            Shape::Function(kind != FUNCTION, first, count)
+    pub fn bounded(bound: u64) -> Step
+        ensures kept { result ≡ kept (array_step (some bound)) }
+        ensures means { step_of result ≡ array_step (some bound) }
+    {
+        Step {
+            kind: BOUNDED,
+            operand: bound,
+        }
+    }
+
+    // A function whose parameters stand from entry `first` on.
+    pub fn function(varargs: bool, first: u32, count: u32) -> Step
+        ensures kept { result ≡ kept (function_step varargs (record { first = first; count = count })) }
+        ensures means { step_of result ≡ function_step varargs (record { first = first; count = count }) }
+    {
+        Step {
+            kind: if varargs { VARIADIC } else { FUNCTION },
+            operand: FIRST_UNIT * u64::from(first) + u64::from(count),
+        }
+    }
+
+    #[tactic(auto, unfolding(crate::specs::Pending::step_from, crate::specs::Pending::shape_step, crate::specs::Pending::span_of))]
+    pub fn shape(self) -> Shape
+        ensures { shape_step result ≡ step_of self }
+    {
+        let Step { kind, operand } = self;
+        match kind {
+            POINTER => Shape::Pointer(Qualifiers::from_bits(operand)),
+            ARRAY => Shape::Array,
+            BOUNDED => Shape::Bounded(operand),
+            _ => {
+                let first = (operand / FIRST_UNIT) as u32;
+                let count = (operand % FIRST_UNIT) as u32;
+                Shape::Function(kind != FUNCTION, first, count)
+            }
         }
     }
 }
 
-// The step at an entry: before it come those that a base type takes after it.
-#[tactic(auto, using(crate::proofs::Views::steps_more))]
-pub fn step_at(
-    kinds: &[u32; Model::MAX_STEPS],
-    operands: &[u64; Model::MAX_STEPS],
-    i: usize,
-) -> Step
-    requires { i < max_steps }
-    ensures kept { result ≡ step_in kinds.now operands.now i }
-    ensures means { steps_from kinds.now operands.now (i + 1) ≡ step_of result ∷ steps_from kinds.now operands.now i }
-{
-    Step {
-        kind: kinds[i],
-        operand: operands[i],
+impl Steps {
+    #[tactic(auto, unfolding(crate::specs::Pending::steps_from, crate::specs::Pending::stars_from))]
+    pub fn empty() -> Steps
+        ensures kept { result ≡ no_steps }
+        ensures means { pending result ≡ none_pending }
+    {
+        Steps {
+            kinds: [0; Model::MAX_STEPS],
+            operands: [0; Model::MAX_STEPS],
+            len: 0,
+            held: 0,
+        }
     }
-}
 
-// One more step, which a base type takes before the others.
-pub fn push(mut s: Steps, x: Step) -> Steps
-    requires { Room s }
-    ensures { pending result ≡ with_step (pending s) (step_of x) }
-{
-    let n = s.len;
-    s.kinds[n] = x.kind;
-    s.operands[n] = x.operand;
-    s.len += 1;
-    s
-}
-
-// One more star that waits.
-pub fn hold_star(mut s: Steps, q: Qualifiers) -> Steps
-    requires { Room s }
-    ensures { pending result ≡ with_star (pending s) (qualifiers q) }
-{
-    let at = Model::MAX_STEPS - 1 - s.held;
-    s.operands[at] = u64::from(q.bits());
-    s.held += 1;
-    s
-}
-
-// The newest n stars become steps: what they stand before has been read.
-pub fn release_stars(mut s: Steps, n: usize) -> Steps
-    requires { Waiting s n }
-    ensures { pending result ≡ released n (pending s) }
-{
-    for _ in 0..n {
-        let len = s.len;
-        let at = Model::MAX_STEPS - s.held;
-        s.kinds[len] = POINTER;
-        s.operands[len] = s.operands[at];
-        s.len += 1;
-        s.held -= 1;
+    // There is no room for one more.
+    pub fn is_full(&self) -> bool
+        ensures { result ≡ leb max_steps (self.now.held + self.now.len) }
+    {
+        Model::MAX_STEPS.saturating_sub(self.len) <= self.held
     }
-    s
+
+    // The step at an entry: before it come those that a base type takes after it.
+    #[tactic(auto, using(crate::proofs::Views::steps_more))]
+    pub fn step_at(&self, i: usize) -> Step
+        requires { i < max_steps }
+        ensures kept { result ≡ step_in self.now.kinds self.now.operands i }
+        ensures means { steps_from self.now.kinds self.now.operands (i + 1) ≡ step_of result ∷ steps_from self.now.kinds self.now.operands i }
+    {
+        Step {
+            kind: self.kinds[i],
+            operand: self.operands[i],
+        }
+    }
+
+    // One more step, which a base type takes before the others.
+    pub fn push(mut self, x: Step) -> Steps
+        requires { Room self }
+        ensures { pending result ≡ with_step (pending self) (step_of x) }
+    {
+        let n = self.len;
+        self.kinds[n] = x.kind;
+        self.operands[n] = x.operand;
+        self.len += 1;
+        self
+    }
+
+    // One more star that waits.
+    pub fn hold_star(mut self, q: Qualifiers) -> Steps
+        requires { Room self }
+        ensures { pending result ≡ with_star (pending self) (qualifiers q) }
+    {
+        let at = Model::MAX_STEPS - 1 - self.held;
+        self.operands[at] = u64::from(q.bits());
+        self.held += 1;
+        self
+    }
+
+    // The newest n stars become steps: what they stand before has been read.
+    pub fn release_stars(mut self, n: usize) -> Steps
+        requires { Waiting self n }
+        ensures { pending result ≡ released n (pending self) }
+    {
+        for _ in 0..n {
+            let len = self.len;
+            let at = Model::MAX_STEPS - self.held;
+            self.kinds[len] = POINTER;
+            self.operands[len] = self.operands[at];
+            self.len += 1;
+            self.held -= 1;
+        }
+        self
+    }
 }

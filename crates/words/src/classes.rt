@@ -1,16 +1,6 @@
 // Classes of words, by the kind of a token.
-#![tactic(
-    auto,
-    unfolding(
-        definition::specs::Kind::is_name,
-        definition::specs::Kind::is_word,
-        definition::specs::Specifier::is_storage_word,
-        definition::specs::Specifier::is_qualifier_word,
-        definition::specs::Specifier::is_ignored_word,
-        definition::specs::Specifier::is_type_word,
-        definition::specs::Specifiers::is_tag_word,
-    )
-)]
+#![tactic(auto, unfolding(definition::specs::Kind::is_name, definition::specs::Kind::is_word, definition::specs::Specifier::is_storage_word, definition::specs::Specifier::is_qualifier_word, definition::specs::Specifier::is_ignored_word, definition::specs::Specifier::is_type_word, definition::specs::Specifiers::is_tag_word))]
+
 ghost use Rattle.std.specs.Prelude.{◌≡◌};
 ghost use Rattle.definition.specs.Kind.{is_name, is_word};
 ghost use Rattle.definition.specs.Specifier.{is_storage_word, is_qualifier_word, is_ignored_word, is_type_word};

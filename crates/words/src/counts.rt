@@ -33,14 +33,7 @@ impl Words {
     }
 
     // One more of a type word.
-    #[tactic(
-        auto,
-        unfolding(
-            definition::specs::Specifier::with_word,
-            definition::specs::Specifier::total,
-            definition::specs::Specifier::is_type_word,
-        )
-    )]
+    #[tactic(auto, unfolding(definition::specs::Specifier::with_word, definition::specs::Specifier::total, definition::specs::Specifier::is_type_word))]
     pub fn with_word(mut self, kind: u32) -> Words
         requires at_most { AtMost max_text (counts self) }
         requires kind_value { is_type_word kind ≡ true }

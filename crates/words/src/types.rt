@@ -22,16 +22,8 @@ pub struct BaseRow {
     pub extent: u64,
 }
 
+#[tactic(auto, unfolding(crate::specs::Meaning::numbers, definition::specs::Row::kind_of, definition::specs::Row::flags_of, definition::specs::Row::extent_of))]
 impl BaseRow {
-    #[tactic(
-        auto,
-        unfolding(
-            crate::specs::Meaning::numbers,
-            definition::specs::Row::kind_of,
-            definition::specs::Row::flags_of,
-            definition::specs::Row::extent_of,
-        )
-    )]
     pub fn void() -> BaseRow
         ensures { result ≡ numbers void }
     {
@@ -42,15 +34,6 @@ impl BaseRow {
         }
     }
 
-    #[tactic(
-        auto,
-        unfolding(
-            crate::specs::Meaning::numbers,
-            definition::specs::Row::kind_of,
-            definition::specs::Row::flags_of,
-            definition::specs::Row::extent_of,
-        )
-    )]
     pub fn bool() -> BaseRow
         ensures { result ≡ numbers bool }
     {
@@ -61,15 +44,6 @@ impl BaseRow {
         }
     }
 
-    #[tactic(
-        auto,
-        unfolding(
-            crate::specs::Meaning::numbers,
-            definition::specs::Row::kind_of,
-            definition::specs::Row::flags_of,
-            definition::specs::Row::extent_of,
-        )
-    )]
     pub fn float(bytes: u64) -> BaseRow
         ensures { result ≡ numbers (float bytes) }
     {
@@ -80,15 +54,6 @@ impl BaseRow {
         }
     }
 
-    #[tactic(
-        auto,
-        unfolding(
-            crate::specs::Meaning::numbers,
-            definition::specs::Row::kind_of,
-            definition::specs::Row::flags_of,
-            definition::specs::Row::extent_of,
-        )
-    )]
     pub fn int(bytes: u64, signed: bool) -> BaseRow
         ensures { result ≡ numbers (int bytes signed) }
     {
