@@ -14,7 +14,7 @@ use Rattle.table.specs.declared.Cursor.{Cursor}
 use Rattle.table.specs.declared.Numbers.{Numbers}
 use Rattle.table.proofs.Branch.{some!, none! }
 use Rattle.words.specs.declared.types.BaseRow.{BaseRow}
-use Rattle.words.specs.declared.types.Known.TheVariants.{Row as Known-as-Row, Nothing as Known-as-Nothing}
+use Rattle.std.specs.Prelude.{Some, None}
 use Rattle.words.specs.Meaning.{numbers as base_numbers, known}
 use Rattle.words.specs.Plain.{Plain, AllPlain}
 use Rattle.words.proofs.Uses.{a-row, no_row}
@@ -28,12 +28,12 @@ plain-numbers {b} x e p = rw (e, p.target, p.name, p.entries)
 
 -- the row of an answer that words or a name gave, added; or nothing to add
 module _ (o : Option Row) {c : Cursor} {t : Table} {w d w' d' : List ℕ} {v v' : List ℤ} {r : Reply ℕ} (y : Answer (ℕ × State)) where
-  pub added : {b : BaseRow} → AllPlain o → Known-as-Row b ≡ known o → AddsPlain b c w d v r w' d' v' → Encodes t c w d v
+  pub added : {b : BaseRow} → AllPlain o → Some b ≡ known o → AddsPlain b c w d v r w' d' v' → Encodes t c w d v
       → Shows both (elim o as (λ z. Answer (ℕ × State)) [ some x ↦ add x (state c t) | none ↦ y ]) r w' d' v'
   added p e a h =
       let s = a-row o e in
       some! o (λ x. add x (state c t)) y s.there ((a.of s.row s.same (p.of s.row s.there)).run t h)
 
-pub none-added : (o : Option Row) {w d : List ℕ} {v : List ℤ} {r : Reply ℕ} (s : State) (y : Answer (ℕ × State)) → Known-as-Nothing ≡ known o → Shows both y r w d v
+pub none-added : (o : Option Row) {w d : List ℕ} {v : List ℤ} {r : Reply ℕ} (s : State) (y : Answer (ℕ × State)) → None ≡ known o → Shows both y r w d v
     → Shows both (elim o as (λ z. Answer (ℕ × State)) [ some x ↦ add x s | none ↦ y ]) r w d v
 none-added o s y e h = none! o (λ x. add x s) y (no_row o e) h

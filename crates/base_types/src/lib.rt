@@ -15,8 +15,8 @@ use naming::name_at;
 use table::{Cursor, Numbers, Step, kind_at};
 use type_rows::{add_row, qualify};
 use words::classes::is_name;
-use words::specifiers::{Base, Specifiers};
-use words::types::{BaseRow, Known, builtin, combine};
+use words::specifiers::Specifiers;
+use words::types::{BaseRow, builtin, combine};
 
 // The row of a type that words or a known name make.
 fn add_base(w: &mut [u32], d: &mut [u64], v: &mut [i64], c: Cursor, base: BaseRow) -> Step
@@ -63,7 +63,7 @@ pub fn named_type(
         return Step::Done(c, n);
     }
     let k = builtin(m, kind);
-    let Known::Row(b) = k else {
+    let Some(b) = k else {
         return Step::Refused(UNKNOWN_TYPE, at);
     };
     add_base(w, d, v, c, b)
@@ -84,11 +84,11 @@ pub fn words_type(
 {
     let base = p.base;
     let words = p.words;
-    if let Base::Row(n) = base {
+    if let Some(n) = base {
         return Step::Done(c, n);
     }
     let k = combine(m, words);
-    let Known::Row(b) = k else {
+    let Some(b) = k else {
         return Step::Refused(BAD_TYPE_WORDS, at);
     };
     add_base(w, d, v, c, b)

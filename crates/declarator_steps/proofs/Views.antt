@@ -1,24 +1,20 @@
 -- How the views change with the entries. Assumes nothing.
 use mathlib.Core.Path.{◌≡◌, refl, sym, ap, ◌∙◌}
 use mathlib.Core.List.{List, [], ◌∷◌}
-use mathlib.Core.Bool.{Bool, true, false}
 use mathlib.Core.Option.{Option, none, some}
 use Prim.Native.Nat.{ℕ, zero, suc, ◌+◌, ◌-◌, ◌*◌, ◌^◌, ◌≤◌, ◌<◌}
 use native.Mathlib.Omega.{arith}
 use native.Mathlib.Numerals.{add-one}
 use lib.ListN.{length, get_or, set, take, length-set, length-drop}
-use native.Mathlib.Nat.{lt_of_not-le, mul_comm}
-use native.Mathlib.Decide.{dec_le}
+use native.Mathlib.Nat.{mul_comm}
 use lib.Arith.{digits_div, digits_mod}
-use lib.Dec.{eqb, leb}
 use lib.Seq.{get_or-set_same, get_or-set_other, length-take-le}
-use borrow.Author.Tests.{le-leb, lt-leb, ne_eqb}
 use Rattle.definition.specs.Limit.{max_steps}
-use Rattle.definition.specs.Row.{Qualifiers, Span, qualifier_bits}
-use Rattle.definition.specs.Grammar.{DeclaratorStep, pointer_step, array_step, function_step}
+use Rattle.definition.specs.Row.{Qualifiers}
+use Rattle.definition.specs.Grammar.{DeclaratorStep, pointer_step, array_step}
 use Rattle.definition.specs.Declarator.{starred}
-use Rattle.lemmas.proofs.Branch.{nay}
-use Rattle.declarator_steps.specs.Pending.{pointer_kind, array_kind, bounded_kind, function_kind, qualifiers_of, span_of, step_from, step_of, step_in, kept, steps_from, stars_from, Pending, pending, none_pending, no_steps, with_step, with_star, released}
+use Rattle.words.specs.Meaning.{qualifiers_in}
+use Rattle.declarator_steps.specs.Pending.{pointer_kind, span_of, step_from, step_of, kept, steps_from, stars_from, Pending, pending, none_pending, no_steps, with_step, with_star, released}
 use Rattle.declarator_steps.specs.declared.Step.{Step}
 use Rattle.declarator_steps.specs.declared.Steps.{Steps}
 
@@ -41,9 +37,9 @@ length-starred (q ∷ qs) xs = let e = length-starred qs (pointer_step q ∷ xs)
 
 -- ---- one step more
 
-pub steps-more : (ks os : List ℕ) (n : ℕ) → steps_from ks os (n + 1) ≡ step_from (get_or ks n 0) (get_or os n 0) ∷ steps_from ks os n
+pub steps_more : (ks os : List ℕ) (n : ℕ) → steps_from ks os (n + 1) ≡ step_from (get_or ks n 0) (get_or os n 0) ∷ steps_from ks os n
 unfolding steps_from
-steps-more ks os n = rw (add-one n, steps_from)
+steps_more ks os n = rw (add-one n, steps_from)
 
 -- steps see the entries below their number
 steps-same : (ks ks' os os' : List ℕ) (n : ℕ) → ((j : ℕ) → j < n → get_or ks j 0 ≡ get_or ks' j 0) → ((j : ℕ) → j < n → get_or os j 0 ≡ get_or os' j 0) → steps_from ks os n ≡ steps_from ks' os' n
@@ -74,41 +70,20 @@ module _ (ks os : List ℕ) (i k x : ℕ) where
 
   -- a step stored after n others
   pub stored : (n : ℕ) → i ≡ n → n < length ks → n < length os → steps_from (set ks i k) (set os i x) (n + 1) ≡ step_from k x ∷ steps_from ks os n
-  stored n e p q = steps-more (set ks i k) (set os i x) n ∙ rw (e) (rw (get_or-set_same ks n k 0 p, get_or-set_same os n x 0 q) (ap (λ l. step_from k x ∷ l) (rw (e) at (steps-stay n (omega arith)))))
+  stored n e p q = steps_more (set ks i k) (set os i x) n ∙ rw (e) (rw (get_or-set_same ks n k 0 p, get_or-set_same os n x 0 q) (ap (λ l. step_from k x ∷ l) (rw (e) at (steps-stay n (omega arith)))))
 
   -- a star stored before n others
-  pub star-stored : (n : ℕ) → i ≡ max_steps - 1 - n → n < max_steps → length os ≡ max_steps → stars_from (set os i x) (n + 1) ≡ qualifiers_of x ∷ stars_from os n
+  pub star-stored : (n : ℕ) → i ≡ max_steps - 1 - n → n < max_steps → length os ≡ max_steps → stars_from (set os i x) (n + 1) ≡ qualifiers_in x ∷ stars_from os n
   unfolding stars_from
   star-stored n e p q =
       let f : max_steps - suc n ≡ i = omega arith in
-      rw (add-one n, stars_from, f, get_or-set_same os i x 0 (omega arith)) (ap (λ l. qualifiers_of x ∷ l) (stars-stay n (omega arith)))
+      rw (add-one n, stars_from, f, get_or-set_same os i x 0 (omega arith)) (ap (λ l. qualifiers_in x ∷ l) (stars-stay n (omega arith)))
 
--- ---- qualifiers and parameters as numbers
+-- ---- parameters as numbers
 
-bits_are : (c v r : Bool) → qualifiers_of (qualifier_bits (record { const = c; volatile = v; restrict = r })) ≡ record { const = c; volatile = v; restrict = r }
-unfolding qualifiers_of qualifier_bits
-bits_are true true true = refl
-bits_are true true false = refl
-bits_are true false true = refl
-bits_are true false false = refl
-bits_are false true true = refl
-bits_are false true false = refl
-bits_are false false true = refl
-bits_are false false false = refl
-
--- the bits of qualifiers mean them
-pub bits_mean : (q : Qualifiers) {n : ℕ} → n ≡ qualifier_bits q → qualifiers_of n ≡ q
-bits_mean q e = ap qualifiers_of e ∙ bits_are q.const q.volatile q.restrict
-
-pub span-is : (first count : ℕ) → count < 2 ^ 32 → span_of (2 ^ 32 * first + count) ≡ record { first = first; count = count }
+pub span_is : (first count : ℕ) → count < 2 ^ 32 → span_of (2 ^ 32 * first + count) ≡ record { first = first; count = count }
 unfolding span_of
-span-is first count h = rw (mul_comm (2 ^ 32) first, digits_div first {m = 2 ^ 32} h, digits_mod first {m = 2 ^ 32} h)
-
--- a kind that is no other is a variadic function
-pub is_variadic : (k o : ℕ) → (k ≡ pointer_kind → ⊥) → (k ≡ array_kind → ⊥) → (k ≡ bounded_kind → ⊥) → (k ≡ function_kind → ⊥) → step_from k o ≡ function_step true (span_of o)
-unfolding step_from
-is_variadic k o a b c d = nay (eqb k pointer_kind) _ _ (ne_eqb k pointer_kind a) ∙ nay (eqb k array_kind) _ _ (ne_eqb k array_kind b)
-    ∙ nay (eqb k bounded_kind) _ _ (ne_eqb k bounded_kind c) ∙ nay (eqb k function_kind) _ _ (ne_eqb k function_kind d)
+span_is first count h = rw (mul_comm (2 ^ 32) first, digits_div first {m = 2 ^ 32} h, digits_mod first {m = 2 ^ 32} h)
 
 -- ---- for callers: what is kept means the step that it keeps
 
@@ -117,27 +92,9 @@ unfolding kept step_from
 array-kept none e = ap step_of e
 array-kept (some n) e = ap step_of e
 
-pub function-kept : (v : Bool) (e : Span) {x : Step} → e.count < 2 ^ 32 → x ≡ kept (function_step v e) → step_of x ≡ function_step v e
-unfolding kept step_from
-function-kept true e h p = ap step_of p ∙ ap (function_step true) (span-is e.first e.count h)
-function-kept false e h p = ap step_of p ∙ ap (function_step false) (span-is e.first e.count h)
-
--- the step of an entry is the next one
-pub step-next : (ks os : List ℕ) (n : ℕ) {x : Step} → x ≡ step_in ks os n → steps_from ks os (n + 1) ≡ step_of x ∷ steps_from ks os n
-step-next ks os n e = steps-more ks os n ∙ ap (λ y. step_of y ∷ steps_from ks os n) (sym e)
-
 pub none-pending : {s : Steps} → s ≡ no_steps → pending s ≡ none_pending
 unfolding steps_from stars_from
 none-pending e = ap pending e
-
--- ---- room
-
-pub full_is : (len held : ℕ) → len < max_steps → leb (max_steps - len) held ≡ leb max_steps (held + len)
-full_is len held h = go (dec_le max_steps (held + len))
-  where
-    go : Dec (max_steps ≤ held + len) → leb (max_steps - len) held ≡ leb max_steps (held + len)
-    go (yes p) = le-leb (max_steps - len) held (omega arith) ∙ sym (le-leb max_steps (held + len) p)
-    go (no p) = let q = lt_of_not-le p in lt-leb (max_steps - len) held (omega arith) ∙ sym (lt-leb max_steps (held + len) q)
 
 -- ---- both at once
 

@@ -7,6 +7,7 @@ use Rattle.definition.specs.Limit.{max_steps}
 use Rattle.definition.specs.Row.{Qualifiers, Span, qualifier_bits}
 use Rattle.definition.specs.Grammar.{DeclaratorStep, pointer_step, array_step, function_step}
 use Rattle.definition.specs.Declarator.{starred}
+use Rattle.words.specs.Meaning.{qualifiers, qualifiers_in}
 use Rattle.declarator_steps.specs.declared.Step.{Step}
 use Rattle.declarator_steps.specs.declared.Steps.{Steps}
 use Rattle.declarator_steps.specs.declared.Shape.{Shape}
@@ -28,10 +29,6 @@ function_kind = 4
 abbrev pub variadic_kind : ℕ
 variadic_kind = 5  -- a function with `...`
 
--- c is 1, v is 2, r is 4
-unfoldable pub qualifiers_of : ℕ → Qualifiers
-qualifiers_of n = record { const = eqb (n % 2) 1; volatile = eqb (n / 2 % 2) 1; restrict = eqb (n / 4 % 2) 1 }
-
 -- the first parameter in the upper half, how many in the lower
 unfoldable pub span_of : ℕ → Span
 span_of n = record { first = n / 2 ^ 32; count = n % 2 ^ 32 }
@@ -40,7 +37,7 @@ span_of n = record { first = n / 2 ^ 32; count = n % 2 ^ 32 }
 unfoldable pub step_from : ℕ → ℕ → DeclaratorStep
 step_from kind operand =
     elim (eqb kind pointer_kind) [
-      | true ↦ pointer_step (qualifiers_of operand)
+      | true ↦ pointer_step (qualifiers_in operand)
       | false ↦
           elim (eqb kind array_kind) [
             | true ↦ array_step none
@@ -73,7 +70,7 @@ kept (function_step v e) = record { kind = function_kind_of v; operand = 2 ^ 32 
 
 -- the same, told apart
 unfoldable pub shape_step : Shape → DeclaratorStep
-shape_step (Pointer c v r) = pointer_step (record { const = c; volatile = v; restrict = r })
+shape_step (Pointer q) = pointer_step (qualifiers q)
 shape_step Array = array_step none
 shape_step (Bounded n) = array_step (some n)
 shape_step (Function v first count) = function_step v (record { first = first; count = count })
@@ -86,7 +83,7 @@ steps_from kinds operands (suc n) = step_from (get_or kinds n 0) (get_or operand
 -- n stars that wait, the newest first
 unfoldable pub stars_from : List ℕ → ℕ → List Qualifiers
 stars_from operands zero = []
-stars_from operands (suc n) = qualifiers_of (get_or operands (max_steps - suc n) 0) ∷ stars_from operands n
+stars_from operands (suc n) = qualifiers_in (get_or operands (max_steps - suc n) 0) ∷ stars_from operands n
 
 -- Steps in the order in which a base type takes them, and the stars that wait, the newest first.
 pub record Pending : Type 0 where

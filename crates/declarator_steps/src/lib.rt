@@ -1,13 +1,14 @@
 #![tactic(auto)]
 // The pending steps of a declarator: "at most 256 stars, bounds and parameter lists in one declarator".
-ghost use Rattle.std.specs.Prelude.{◌≡◌, ◌∷◌, ◌+◌, ◌*◌, ◌<◌, leb};
+ghost use Rattle.std.specs.Prelude.{◌≡◌, ◌∷◌, ◌+◌, ◌<◌, leb};
 ghost use Rattle.std.proofs.Math.Option.{none, some};
 ghost use Rattle.definition.specs.Limit.{max_steps};
-ghost use Rattle.definition.specs.Row.{bit, qualifier_bits};
 ghost use Rattle.definition.specs.Grammar.{array_step, function_step};
-ghost use Rattle.declarator_steps.specs.Pending.{qualifiers_of, step_of, step_in, kept, shape_step, steps_from, pending, none_pending, no_steps, with_step, with_star, released, Room, Waiting};
+ghost use Rattle.words.specs.Meaning.{qualifiers};
+ghost use Rattle.declarator_steps.specs.Pending.{step_of, step_in, kept, shape_step, steps_from, pending, none_pending, no_steps, with_step, with_star, released, Room, Waiting};
 
 use model::Model;
+use words::qualifiers::Qualifiers;
 
 // Kinds of steps.
 pub const POINTER: u32 = 1;
@@ -19,12 +20,6 @@ pub const BOUNDED: u32 = 3;
 pub const FUNCTION: u32 = 4;
 
 pub const VARIADIC: u32 = 5;
-// Qualifiers of a pointer.
-const CONST: u64 = 1;
-
-const VOLATILE: u64 = 2;
-
-const RESTRICT: u64 = 4;
 // Where a function's parameters stand: the first of them in this unit, and their count below it.
 const FIRST_UNIT: u64 = 4294967296;
 
@@ -38,7 +33,7 @@ pub struct Step {
 // A step told apart: qualifiers; no bound; a bound; `...`, first parameter and count.
 #[derive(Clone, Copy)]
 pub enum Shape {
-    Pointer(bool, bool, bool),
+    Pointer(Qualifiers),
     Array,
     Bounded(u64),
     Function(bool, u32, u32),
@@ -53,170 +48,127 @@ pub struct Steps {
     pub held: usize,
 }
 
-pub fn empty() -> Steps
-    ensures kept { result ≡ no_steps }
-    ensures means { pending result ≡ none_pending }
-{
-    Steps {
-        kinds: [0; Model::MAX_STEPS],
-        operands: [0; Model::MAX_STEPS],
-        len: 0,
-        held: 0,
+#[tactic(auto, using(crate::proofs::Views::span_is), unfolding(crate::specs::Pending::kept, crate::specs::Pending::step_from))]
+impl Step {
+    pub fn unbounded() -> Step
+        ensures kept { result ≡ kept (array_step none) }
+        ensures means { step_of result ≡ array_step none }
+    {
+        Step {
+            kind: ARRAY,
+            operand: 0,
+        }
+    }
+
+    pub fn bounded(bound: u64) -> Step
+        ensures kept { result ≡ kept (array_step (some bound)) }
+        ensures means { step_of result ≡ array_step (some bound) }
+    {
+        Step {
+            kind: BOUNDED,
+            operand: bound,
+        }
+    }
+
+    // A function whose parameters stand from entry `first` on.
+    pub fn function(varargs: bool, first: u32, count: u32) -> Step
+        ensures kept { result ≡ kept (function_step varargs (record { first = first; count = count })) }
+        ensures means { step_of result ≡ function_step varargs (record { first = first; count = count }) }
+    {
+        Step {
+            kind: if varargs { VARIADIC } else { FUNCTION },
+            operand: FIRST_UNIT * u64::from(first) + u64::from(count),
+        }
+    }
+
+    #[tactic(auto, unfolding(crate::specs::Pending::step_from, crate::specs::Pending::shape_step, crate::specs::Pending::span_of))]
+    pub fn shape(self) -> Shape
+        ensures { shape_step result ≡ step_of self }
+    {
+        let Step { kind, operand } = self;
+        match kind {
+            POINTER => Shape::Pointer(Qualifiers::from_bits(operand)),
+            ARRAY => Shape::Array,
+            BOUNDED => Shape::Bounded(operand),
+            _ => {
+                let first = (operand / FIRST_UNIT) as u32;
+                let count = (operand % FIRST_UNIT) as u32;
+                Shape::Function(kind != FUNCTION, first, count)
+            }
+        }
     }
 }
 
-// There is no room for one more.
-pub fn is_full(len: usize, held: usize) -> bool
-    ensures { result ≡ leb max_steps (held + len) }
-{
-    if Model::MAX_STEPS <= len {
-        return true;
+impl Steps {
+    #[tactic(auto, unfolding(crate::specs::Pending::steps_from, crate::specs::Pending::stars_from))]
+    pub fn empty() -> Steps
+        ensures kept { result ≡ no_steps }
+        ensures means { pending result ≡ none_pending }
+    {
+        Steps {
+            kinds: [0; Model::MAX_STEPS],
+            operands: [0; Model::MAX_STEPS],
+            len: 0,
+            held: 0,
+        }
     }
-    Model::MAX_STEPS - len <= held
-}
 
-fn bit(on: bool, value: u64) -> u64
-    ensures { result ≡ value * bit on }
-{
-    if on {
-        return value;
+    // There is no room for one more.
+    pub fn is_full(&self) -> bool
+        ensures { result ≡ leb max_steps (self.now.held + self.now.len) }
+    {
+        Model::MAX_STEPS.saturating_sub(self.len) <= self.held
     }
-    0
-}
 
-// The qualifiers as one number.
-pub fn qualifier_bits(constant: bool, volatile: bool, restrict: bool) -> u64
-    ensures kept { result ≡ qualifier_bits (record { const = constant; volatile = volatile; restrict = restrict }) }
-    ensures means { qualifiers_of result ≡ record { const = constant; volatile = volatile; restrict = restrict } }
-{
-    bit(constant, CONST) + bit(volatile, VOLATILE) + bit(restrict, RESTRICT)
-}
+    // The step at an entry: before it come those that a base type takes after it.
+    #[tactic(auto, using(crate::proofs::Views::steps_more))]
+    pub fn step_at(&self, i: usize) -> Step
+        requires { i < max_steps }
+        ensures kept { result ≡ step_in self.now.kinds self.now.operands i }
+        ensures means { steps_from self.now.kinds self.now.operands (i + 1) ≡ step_of result ∷ steps_from self.now.kinds self.now.operands i }
+    {
+        Step {
+            kind: self.kinds[i],
+            operand: self.operands[i],
+        }
+    }
 
-pub fn unbounded() -> Step
-    ensures kept { result ≡ kept (array_step none) }
-    ensures means { step_of result ≡ array_step none }
-{
-    Step {
-        kind: ARRAY,
-        operand: 0,
+    // One more step, which a base type takes before the others.
+    pub fn push(mut self, x: Step) -> Steps
+        requires { Room self }
+        ensures { pending result ≡ with_step (pending self) (step_of x) }
+    {
+        let n = self.len;
+        self.kinds[n] = x.kind;
+        self.operands[n] = x.operand;
+        self.len += 1;
+        self
     }
-}
 
-pub fn bounded(bound: u64) -> Step
-    ensures kept { result ≡ kept (array_step (some bound)) }
-    ensures means { step_of result ≡ array_step (some bound) }
-{
-    Step {
-        kind: BOUNDED,
-        operand: bound,
+    // One more star that waits.
+    pub fn hold_star(mut self, q: Qualifiers) -> Steps
+        requires { Room self }
+        ensures { pending result ≡ with_star (pending self) (qualifiers q) }
+    {
+        let at = Model::MAX_STEPS - 1 - self.held;
+        self.operands[at] = u64::from(q.bits());
+        self.held += 1;
+        self
     }
-}
 
-// A function whose parameters stand from entry `first` on.
-pub fn function(varargs: bool, first: u32, count: u32) -> Step
-    ensures kept { result ≡ kept (function_step varargs (record { first = first; count = count })) }
-    ensures means { step_of result ≡ function_step varargs (record { first = first; count = count }) }
-{
-    let operand = FIRST_UNIT * (first as u64) + (count as u64);
-    if varargs {
-        return Step {
-            kind: VARIADIC,
-            operand,
-        };
+    // The newest n stars become steps: what they stand before has been read.
+    pub fn release_stars(mut self, n: usize) -> Steps
+        requires { Waiting self n }
+        ensures { pending result ≡ released n (pending self) }
+    {
+        for _ in 0..n {
+            let len = self.len;
+            let at = Model::MAX_STEPS - self.held;
+            self.kinds[len] = POINTER;
+            self.operands[len] = self.operands[at];
+            self.len += 1;
+            self.held -= 1;
+        }
+        self
     }
-    Step {
-        kind: FUNCTION,
-        operand,
-    }
-}
-
-// A step told apart.
-pub fn shape_of(x: Step) -> Shape
-    ensures { shape_step result ≡ step_of x }
-{
-    let kind = x.kind;
-    let operand = x.operand;
-    if kind == POINTER {
-        return Shape::Pointer(
-            operand % 2 == 1,
-            operand / VOLATILE % 2 == 1,
-            operand / RESTRICT % 2 == 1,
-        );
-    }
-    if kind == ARRAY {
-        return Shape::Array;
-    }
-    if kind == BOUNDED {
-        return Shape::Bounded(operand);
-    }
-    let first = (operand / FIRST_UNIT) as u32;
-    let count = (operand % FIRST_UNIT) as u32;
-    if kind == FUNCTION {
-        return Shape::Function(false, first, count);
-    }
-    Shape::Function(true, first, count)
-}
-
-// The step at an entry: before it come those that a base type takes after it.
-pub fn step_at<'a>(
-    kinds: &'a [u32; Model::MAX_STEPS],
-    operands: &'a [u64; Model::MAX_STEPS],
-    i: usize,
-) -> Step
-    requires { i < max_steps }
-    ensures kept { result ≡ step_in kinds.now operands.now i }
-    ensures means { steps_from kinds.now operands.now (i + 1) ≡ step_of result ∷ steps_from kinds.now operands.now i }
-{
-    Step {
-        kind: kinds[i],
-        operand: operands[i],
-    }
-}
-
-// One more step, which a base type takes before the others.
-pub fn push(s: Steps, x: Step) -> Steps
-    requires { Room s }
-    ensures { pending result ≡ with_step (pending s) (step_of x) }
-{
-    let mut t = s;
-    let n = t.len;
-    t.kinds[n] = x.kind;
-    t.operands[n] = x.operand;
-    t.len = n + 1;
-    t
-}
-
-// One more star that waits.
-pub fn hold_star(s: Steps, constant: bool, volatile: bool, restrict: bool) -> Steps
-    requires { Room s }
-    ensures { pending result ≡ with_star (pending s) (record { const = constant; volatile = volatile; restrict = restrict }) }
-{
-    let bits = qualifier_bits(constant, volatile, restrict);
-    let mut t = s;
-    let n = t.held;
-    let at = Model::MAX_STEPS - 1 - n;
-    t.operands[at] = bits;
-    t.held = n + 1;
-    t
-}
-
-// The newest n stars become steps: what they stand before has been read.
-pub fn release_stars(s: Steps, n: usize) -> Steps
-    requires { Waiting s n }
-    ensures { pending result ≡ released n (pending s) }
-{
-    let mut t = s;
-    let mut i = 0;
-    while i < n {
-        let len = t.len;
-        let held = t.held;
-        let at = Model::MAX_STEPS - held;
-        let bits = t.operands[at];
-        t.kinds[len] = POINTER;
-        t.operands[len] = bits;
-        t.len = len + 1;
-        t.held = held - 1;
-        i += 1;
-    }
-    t
 }

@@ -3,7 +3,7 @@ ghost use Rattle.std.specs.Prelude.{◌≡◌};
 ghost use Rattle.definition.specs.Table.{storage_number};
 ghost use Rattle.encoding.specs.Storage.{storage, storage_numbered};
 
-#[derive(Clone, Copy)]
+#[derive(Clone, Copy, PartialEq, Eq)]
 pub enum Storage {
     NoStorage,
     Typedef,
@@ -12,12 +12,13 @@ pub enum Storage {
     Auto,
 }
 
-impl Storage {
-    // Its number in the table of declarations.
-    pub fn number(self) -> u32
-        ensures { result ≡ storage_number (storage self) }
-    {
-        match self {
+// Its number in the table of declarations.
+impl From<Storage> for u32 {
+    ghost from_gives = { λ class number. number ≡ storage_number (storage class) };
+
+    #[tactic(auto, unfolding(definition::specs::Table::storage_number))]
+    fn from(class: Storage) -> u32 {
+        match class {
             Storage::NoStorage => 0,
             Storage::Typedef => 1,
             Storage::Extern => 2,
@@ -25,17 +26,36 @@ impl Storage {
             Storage::Auto => 4,
         }
     }
+}
 
-    // The storage of a number from the table.
-    pub fn numbered(n: u32) -> Storage
-        ensures { storage result ≡ storage_numbered n }
-    {
-        match n {
+// The storage of a number from the table.
+impl From<u32> for Storage {
+    ghost from_gives = { λ number class. storage class ≡ storage_numbered number };
+
+    #[tactic(auto, unfolding(crate::specs::Storage::storage_numbered))]
+    fn from(number: u32) -> Storage {
+        match number {
             0 => Storage::NoStorage,
             1 => Storage::Typedef,
             2 => Storage::Extern,
             3 => Storage::Static,
             _ => Storage::Auto,
         }
+    }
+}
+
+impl Storage {
+    // Its number in the table of declarations.
+    pub fn number(self) -> u32
+        ensures { result ≡ storage_number (storage self) }
+    {
+        u32::from(self)
+    }
+
+    // The storage of a number from the table.
+    pub fn numbered(n: u32) -> Storage
+        ensures { storage result ≡ storage_numbered n }
+    {
+        Storage::from(n)
     }
 }

@@ -1,25 +1,24 @@
 -- One round of each loop of the definition, and its end. Each starts with one round more than tokens are left, or two. Assumes nothing.
 use mathlib.Core.Path.{◌≡◌, refl, sym, ap, ◌∙◌}
 use mathlib.Core.List.{List}
-use mathlib.Core.Bool.{Bool, true, false, ◌||◌, ◌&&◌, not, or-false}
+use mathlib.Core.Bool.{Bool, true, false, or-false}
 use Prim.Native.Nat.{ℕ, zero, suc, ◌+◌, ◌-◌, ◌≤◌, ◌<◌}
 use native.Mathlib.Omega.{arith}
-use native.Mathlib.Nat.{lt_of_not-le}
-use native.Mathlib.Decide.{dec_le}
-use lib.Dec.{eqb, leb}
-use lib.IntN.{ℤ, pos, negsuc, suc_ℤ, pred_ℤ, suc-pred, pred-suc}
-use lib.Signed.{le_z}
+use lib.Dec.{eqb}
+use lib.IntN.{ℤ, pos, negsuc, suc_ℤ, pred_ℤ, ◌+ℤ◌}
+use lib.Signed.{◌≤ℤ◌}
+use Rattle.std.proofs.lemmas.Int.{ints}
 use lib.ListN.{length, get_or, get_or-eq_default}
-use borrow.Author.Tests.{le-leb, lt-leb, eqb-true, eq-eqb, ne_eqb}
-use Rattle.definition.specs.Kind.{end, const_word, volatile_word, restrict_word, atomic_word, equals, comma, semicolon}
-use Rattle.definition.specs.Row.{Qualifiers, bit}
+use borrow.Author.Tests.{eqb-true, eq-eqb, ne_eqb}
+use Rattle.definition.specs.Kind.{end, atomic_word, equals}
+use Rattle.definition.specs.Row.{Qualifiers}
 use Rattle.definition.specs.Table.{Table}
 use Rattle.definition.specs.Specifier.{is_qualifier_word, with_qualifier}
 use Rattle.definition.specs.Declarator.{qualifiers_from, bound_words}
 use Rattle.definition.specs.Reader.{nested, skip_initialiser, initialiser}
 use Rattle.lemmas.proofs.Truth.{neither-first, neither-second}
 use Rattle.lemmas.proofs.Branch as branch
-use Rattle.skipping.specs.Passing.{tokens, standing, qualifies, precedes_bound, opener, closer, ends_initialiser}
+use Rattle.skipping.specs.Passing.{tokens, standing, qualifies, precedes_bound, ends_initialiser}
 
 -- ---- qualifiers
 
@@ -27,11 +26,6 @@ use Rattle.skipping.specs.Passing.{tokens, standing, qualifies, precedes_bound, 
 atomic_none : (q : Qualifiers) → with_qualifier atomic_word q ≡ q
 unfolding with_qualifier
 atomic_none q = rw (or-false q.const, or-false q.volatile, or-false q.restrict)
-
-pub said : (k : ℕ) (c v r : Bool) {c' v' r' : Bool} → c' ≡ (c || eqb k const_word) → v' ≡ (v || eqb k volatile_word) → r' ≡ (r || eqb k restrict_word)
-    → with_qualifier k (record { const = c; volatile = v; restrict = r }) ≡ record { const = c'; volatile = v'; restrict = r' }
-unfolding with_qualifier
-said k c v r x y z = rw (x, y, z)
 
 module _ (ks ns : List ℕ) (t : Table) (i : ℕ) where
   abbrev kind : ℕ
@@ -79,55 +73,37 @@ module _ (ks ns : List ℕ) (t : Table) (i : ℕ) where
       let f : length ks - i ≡ suc (length ks - (i + 1)) = omega arith in
       branch.yes (precedes_bound kind) _ _ e ∙ ap (λ n. bound_words (tokens ks ns) n (standing (i + 1) t)) f
 
--- ---- the depth of an initialiser: brackets opened less brackets closed
+-- ---- the depth of an initialiser: what a token makes of it
 
-abbrev pub depth : ℕ → ℕ → ℤ
-depth opened zero = pos opened
-depth opened (suc closed) = pred_ℤ (depth opened closed)
+suc-add : (d : ℤ) → suc_ℤ d ≡ d +ℤ pos 1
+suc-add (pos n) = omega (arith, ints)
+suc-add (negsuc zero) = refl
+suc-add (negsuc (suc n)) = omega (arith, ints)
 
-depth-opened : (o c : ℕ) → depth (suc o) c ≡ suc_ℤ (depth o c)
-depth-opened o zero = refl
-depth-opened o (suc c) = ap pred_ℤ (depth-opened o c) ∙ pred-suc (depth o c) ∙ sym (suc-pred (depth o c))
+pred-add : (d : ℤ) → pred_ℤ d ≡ d +ℤ negsuc 0
+pred-add (pos zero) = refl
+pred-add (pos (suc n)) = omega (arith, ints)
+pred-add (negsuc n) = omega (arith, ints)
 
-depth_pos : (o c : ℕ) → c ≤ o → depth o c ≡ pos (o - c)
-depth_pos o zero h = let e : o ≡ o - 0 = omega arith in ap pos e
-depth_pos o (suc c) h = let e : o - c ≡ suc (o - suc c) = omega arith in rw (depth_pos o c (omega arith), e)
+turned : (a b : Bool) (d : ℤ) → ◌≡◌ {A = ℤ} (elim a as (λ z. ℤ) [ true ↦ suc_ℤ d | false ↦ elim b as (λ z. ℤ) [ true ↦ pred_ℤ d | false ↦ d ] ])
+    (d +ℤ elim a as (λ z. ℤ) [ true ↦ suc_ℤ (pos 0) | false ↦ elim b as (λ z. ℤ) [ true ↦ pred_ℤ (pos 0) | false ↦ pos 0 ] ])
+turned true b d = suc-add d
+turned false true d = pred-add d
+turned false false d = omega (arith, ints)
 
-depth_neg : (o c : ℕ) → o ≤ c → depth o (suc c) ≡ negsuc (c - o)
-depth_neg o zero h = let e : o ≡ 0 = omega arith in rw e
-depth_neg o (suc c) h = go (λ p. depth_neg o c p) (dec_le o c)
-  where
-    go : (o ≤ c → depth o (suc c) ≡ negsuc (c - o)) → Dec (o ≤ c) → depth o (suc (suc c)) ≡ negsuc (suc c - o)
-    go k (yes p) = let e : suc c - o ≡ suc (c - o) = omega arith in ap pred_ℤ (k p) ∙ ap negsuc (sym e)
-    go k (no p) =
-        let l = lt_of_not-le p in
-        let f : o - suc c ≡ 0 = omega arith in
-        let g : suc c - o ≡ 0 = omega arith in
-        ap pred_ℤ (depth_pos o (suc c) (omega arith) ∙ ap pos f) ∙ ap negsuc (sym g)
-
-low : (o c : ℕ) → c < o → Dec (o ≤ suc c) → leb (o - suc c) 0 ≡ leb o (suc c)
-low o c l (yes q) = le-leb (o - suc c) 0 (omega arith) ∙ sym (le-leb o (suc c) q)
-low o c l (no q) = let m = lt_of_not-le q in lt-leb (o - suc c) 0 (omega arith) ∙ sym (lt-leb o (suc c) m)
-
-depth_low : (o c : ℕ) → le_z (depth o c) (pos 0) ≡ leb o c
-depth_low o zero = refl
-depth_low o (suc c) = go (dec_le o c)
-  where
-    go : Dec (o ≤ c) → le_z (depth o (suc c)) (pos 0) ≡ leb o (suc c)
-    go (yes p) = ap (λ z. le_z z (pos 0)) (depth_neg o c p) ∙ sym (le-leb o (suc c) (omega arith))
-    go (no p) = let l = lt_of_not-le p in ap (λ z. le_z z (pos 0)) (depth_pos o (suc c) (omega arith)) ∙ low o c l (dec_le o (suc c))
-
--- what a token makes of it
-turned : (a b : Bool) (o c : ℕ) → ◌≡◌ {A = ℤ} (elim a as (λ z. ℤ) [ true ↦ suc_ℤ (depth o c) | false ↦ elim b as (λ z. ℤ) [ true ↦ pred_ℤ (depth o c) | false ↦ depth o c ] ])
-    (depth (o + bit a) (c + bit (b && not a)))
-turned true true o c = let e : c + 0 ≡ c = omega arith in let f : o + 1 ≡ suc o = omega arith in rw (e, f) (sym (depth-opened o c))
-turned true false o c = let e : c + 0 ≡ c = omega arith in let f : o + 1 ≡ suc o = omega arith in rw (e, f) (sym (depth-opened o c))
-turned false true o c = let e : c + 1 ≡ suc c = omega arith in let f : o + 0 ≡ o = omega arith in rw (f, e)
-turned false false o c = let e : c + 0 ≡ c = omega arith in let f : o + 0 ≡ o = omega arith in rw (e, f)
-
-nested_is : (k o c : ℕ) → nested k (depth o c) ≡ depth (o + bit (opener k)) (c + bit (closer k && not (opener k)))
+pub nested-turn : (k : ℕ) (d : ℤ) → nested k d ≡ d +ℤ nested k (pos 0)
 unfolding nested
-nested_is k o c = turned (opener k) (closer k) o c
+nested-turn k d = turned _ _ d
+
+small : (a b : Bool) → let z : ℤ = elim a as (λ z. ℤ) [ true ↦ suc_ℤ (pos 0) | false ↦ elim b as (λ z. ℤ) [ true ↦ pred_ℤ (pos 0) | false ↦ pos 0 ] ] in
+    (negsuc 0 ≤ℤ z) × (z ≤ℤ pos 1)
+small true b = (omega (arith, ints), omega (arith, ints))
+small false true = (omega (arith, ints), omega (arith, ints))
+small false false = (omega (arith, ints), omega (arith, ints))
+
+pub turn-small : (k : ℕ) → (negsuc 0 ≤ℤ nested k (pos 0)) × (nested k (pos 0) ≤ℤ pos 1)
+unfolding nested
+turn-small k = small _ _
 
 -- ---- initialisers
 
@@ -143,29 +119,25 @@ module _ (ks ns : List ℕ) (t : Table) (i : ℕ) where
   unfolding initialiser
   none_left h = branch.nay (eqb here equals) _ _ (rw (kind-end ks ns t i h))
 
-  pub one-stands : i < length ks → here ≡ equals → initialiser (tokens ks ns) (standing i t) ≡ skip_initialiser (tokens ks ns) (suc (suc (length ks - (i + 1)))) (depth 0 0) (standing (i + 1) t)
+  pub one-stands : i < length ks → here ≡ equals → initialiser (tokens ks ns) (standing i t) ≡ skip_initialiser (tokens ks ns) (suc (suc (length ks - (i + 1)))) (pos 0) (standing (i + 1) t)
   unfolding initialiser
   one-stands h e =
       let f : length ks - i ≡ suc (length ks - (i + 1)) = omega arith in
       branch.yes (eqb here equals) _ _ (eq-eqb here equals e) ∙ ap (λ n. skip_initialiser (tokens ks ns) (suc n) (pos 0) (standing (i + 1) t)) f
 
-  -- the test, with the depth as two counts
-  test-is : (o c : ℕ) → (eqb here end || ((eqb here comma || eqb here semicolon) && le_z (depth o c) (pos 0))) ≡ ends_initialiser here o c
-  test-is o c = ap (λ b. eqb here end || ((eqb here comma || eqb here semicolon) && b)) (depth_low o c)
-
-  pub initialiser-stop : (f o c : ℕ) → ends_initialiser here o c ≡ true → skip_initialiser (tokens ks ns) (suc f) (depth o c) (standing i t) ≡ standing i t
+  pub initialiser-stop : (f : ℕ) (d : ℤ) → ends_initialiser here d ≡ true → skip_initialiser (tokens ks ns) (suc f) d (standing i t) ≡ standing i t
   unfolding skip_initialiser
-  initialiser-stop f o c e = branch.yes (eqb here end || ((eqb here comma || eqb here semicolon) && le_z (depth o c) (pos 0))) _ _ (test-is o c ∙ e)
+  initialiser-stop f d e = branch.yes (ends_initialiser here d) _ _ e
 
-  pub initialiser-end : (f o c : ℕ) → length ks ≤ i → skip_initialiser (tokens ks ns) (suc f) (depth o c) (standing i t) ≡ standing i t
-  initialiser-end f o c h = initialiser-stop f o c (rw (kind-end ks ns t i h))
+  pub initialiser-end : (f : ℕ) (d : ℤ) → length ks ≤ i → skip_initialiser (tokens ks ns) (suc f) d (standing i t) ≡ standing i t
+  initialiser-end f d h = initialiser-stop f d (rw (kind-end ks ns t i h))
 
-  pub initialiser-on : (o c : ℕ) → i < length ks → ends_initialiser here o c ≡ false
-      → skip_initialiser (tokens ks ns) (suc (suc (length ks - i))) (depth o c) (standing i t)
-      ≡ skip_initialiser (tokens ks ns) (suc (suc (length ks - (i + 1)))) (depth (o + bit (opener here)) (c + bit (closer here && not (opener here)))) (standing (i + 1) t)
+  pub initialiser-on : (d : ℤ) → i < length ks → ends_initialiser here d ≡ false
+      → skip_initialiser (tokens ks ns) (suc (suc (length ks - i))) d (standing i t)
+      ≡ skip_initialiser (tokens ks ns) (suc (suc (length ks - (i + 1)))) (d +ℤ nested here (pos 0)) (standing (i + 1) t)
   unfolding skip_initialiser
-  initialiser-on o c h e =
+  initialiser-on d h e =
       let f : length ks - i ≡ suc (length ks - (i + 1)) = omega arith in
-      branch.nay (eqb here end || ((eqb here comma || eqb here semicolon) && le_z (depth o c) (pos 0))) _ _ (test-is o c ∙ e)
-      ∙ ap (λ n. skip_initialiser (tokens ks ns) (suc n) (nested here (depth o c)) (standing (i + 1) t)) f
-      ∙ ap (λ z. skip_initialiser (tokens ks ns) (suc (suc (length ks - (i + 1)))) z (standing (i + 1) t)) (nested_is here o c)
+      branch.nay (ends_initialiser here d) _ _ e
+      ∙ ap (λ n. skip_initialiser (tokens ks ns) (suc n) (nested here d) (standing (i + 1) t)) f
+      ∙ ap (λ z. skip_initialiser (tokens ks ns) (suc (suc (length ks - (i + 1)))) z (standing (i + 1) t)) (nested-turn here d)

@@ -6,37 +6,34 @@ ghost use Rattle.words.specs.Meaning.{specifiers, base};
 ghost use Rattle.specifier_words.specs.Untyped.{says_no_type, with_said};
 
 use words::classes::{is_ignored_word, is_qualifier_word, is_storage_word};
-use words::specifiers::{Base, Specifiers};
+use words::specifiers::Specifiers;
 use words::storage::storage_of;
 
 // A storage class, a qualifier, or a word that is passed over.
+#[tactic(auto, unfolding(crate::specs::Untyped::says_no_type))]
 pub fn says_no_type(kind: u32) -> bool
     ensures { result ≡ says_no_type kind }
 {
-    is_storage_word(kind) | (is_qualifier_word(kind) | is_ignored_word(kind))
+    is_storage_word(kind) || is_qualifier_word(kind) || is_ignored_word(kind)
 }
 
 // What is said with one more of these words.
+#[tactic(auto, unfolding(crate::specs::Untyped::with_said))]
 pub fn with_word(p: Specifiers, kind: u32) -> Specifiers
     ensures { specifiers result ≡ with_said (specifiers p) kind }
 {
     if is_storage_word(kind) {
-        return p.storing(storage_of(kind));
+        p.storing(storage_of(kind))
+    } else if is_qualifier_word(kind) {
+        p.qualifying(p.qualifiers.with_qualifier(kind))
+    } else {
+        p
     }
-    if is_qualifier_word(kind) {
-        let q = p.qualifiers;
-        return p.qualifying(q.with_qualifier(kind));
-    }
-    p
 }
 
 // The type is a row that was named.
 pub fn has_base(p: Specifiers) -> bool
     ensures { result ≡ is_some (specifiers p).base }
 {
-    let base = p.base;
-    match base {
-        Base::Row(_) => true,
-        Base::Absent => false,
-    }
+    p.base.is_some()
 }

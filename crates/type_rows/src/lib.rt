@@ -123,7 +123,7 @@ pub fn add_row(w: &mut [u32], d: &mut [u64], v: &mut [i64], c: Cursor, row: Numb
 fn merged_bits(w: &[u32], n: u32, q: Qualifiers) -> u32
     ensures { MergedBits (qualifiers q) n w.now result }
 {
-    let p = Qualifiers::from_bits(row_flags(w, n));
+    let p = Qualifiers::from_bits(u64::from(row_flags(w, n)));
     p.merged(q).bits()
 }
 

@@ -12,7 +12,7 @@ use Rattle.definition.specs.Model.{Model}
 use Rattle.definition.specs.Row.{Row, void, int, float, bool, Qualifiers, qualifier_bits, target_of, row_name, span_of}
 use Rattle.definition.specs.Specifier.{Words, no_words, how_many, with_word, total, only_word, signs, combine, double_type, char_type, short_type, int_type, builtin, type_in}
 use Rattle.words.specs.declared.types.BaseRow.{BaseRow}
-use Rattle.words.specs.declared.types.Known.TheVariants.{Row as Known-as-Row, Nothing}
+use Rattle.std.specs.Prelude.{Some, None}
 use Rattle.words.specs.Meaning.{known, qualifiers_in}
 use Rattle.words.specs.AtMost.{AtMost}
 use Rattle.words.specs.Plain.{Plain, AllPlain, Stands}
@@ -55,18 +55,18 @@ bits-qualifiers q = bits_of q.const q.volatile q.restrict
 -- ---- the rows that words and names make
 
 -- an answer of the code that is a row, or nothing
-pub a-row : {b : BaseRow} (o : Option Row) → Known-as-Row b ≡ known o → Stands o b
+pub a-row : {b : BaseRow} (o : Option Row) → Some b ≡ known o → Stands o b
 unfolding known
 a-row (some x) e = record { row = x; there = refl; same = cc }
-a-row none e = absurd (let z : ◌≡◌ {A = ℕ} 0 1 = cc in omega arith)
+a-row none e = cc
 
-pub no_row : (o : Option Row) → Nothing ≡ known o → o ≡ none
+pub no_row : (o : Option Row) → None ≡ known o → o ≡ none
 unfolding known
-no_row (some x) e = absurd (let z : ◌≡◌ {A = ℕ} 0 1 = cc in omega arith)
+no_row (some x) e = cc
 no_row none e = refl
 
 no! : AllPlain none
-no! = record { of = λ x e. absurd (let z : ◌≡◌ {A = ℕ} 0 1 = cc in omega arith) }
+no! = record { of = λ x e. cc }
 
 yes! : (y : Row) → Plain y → AllPlain (some y)
 yes! y p = record { of = λ x e. let q : y ≡ x = cc in rw q at p }

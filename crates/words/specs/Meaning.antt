@@ -1,16 +1,12 @@
 -- What the values of the code mean: each is read as a value of the definition.
-use Rattle.std.specs.Prelude.{List, [], ◌∷◌, ℕ, ◌/◌, ◌%◌, eqb}
-use Rattle.std.proofs.Math.Option.{Option, none, some}
+use Rattle.std.specs.Prelude.{List, [], ◌∷◌, ℕ, ◌/◌, ◌%◌, eqb, Option, Some, None}
+use Rattle.std.proofs.Math.Option as maybe
 use Rattle.definition.specs.Row.{Row, Qualifiers as MeantQualifiers, kind_of, flags_of, extent_of}
 use Rattle.definition.specs.Specifier.{Specifiers as MeantSpecifiers}
 use Rattle.encoding.specs.Storage.{storage}
 use Rattle.words.specs.declared.qualifiers.Qualifiers.{Qualifiers}
 use Rattle.words.specs.declared.counts.Words.{Words}
 use Rattle.words.specs.declared.types.BaseRow.{BaseRow}
-use Rattle.words.specs.declared.types.Known.{Known}
-use Rattle.words.specs.declared.types.Known.TheVariants.{Row as Known-as-Row, Nothing}
-use Rattle.words.specs.declared.specifiers.Base.{Base}
-use Rattle.words.specs.declared.specifiers.Base.TheVariants.{Row as Based, Absent}
 use Rattle.words.specs.declared.specifiers.Specifiers.{Specifiers}
 
 abbrev pub qualifiers : Qualifiers → MeantQualifiers
@@ -24,9 +20,9 @@ qualifiers_in bits = record { const = eqb (bits % 2) 1; volatile = eqb (bits / 2
 abbrev pub counts : Words → List ℕ
 counts w = w.void ∷ w.char ∷ w.short ∷ w.int ∷ w.long ∷ w.float ∷ w.double ∷ w.signed ∷ w.unsigned ∷ w.bool ∷ w.complex ∷ []
 
-abbrev pub base : Base → Option ℕ
-base (Based n) = some n
-base Absent = none
+abbrev pub base : Option ℕ → maybe.Option ℕ
+base (Some n) = maybe.some n
+base None = maybe.none
 
 abbrev pub specifiers : Specifiers → MeantSpecifiers
 specifiers p = record {
@@ -40,6 +36,6 @@ specifiers p = record {
 unfoldable pub numbers : Row → BaseRow
 numbers x = record { kind = kind_of x; flags = flags_of x; extent = extent_of x }
 
-unfoldable pub known : Option Row → Known
-known (some x) = Known-as-Row (numbers x)
-known none = Nothing
+unfoldable pub known : maybe.Option Row → Option BaseRow
+known (maybe.some x) = Some (numbers x)
+known maybe.none = None

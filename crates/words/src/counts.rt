@@ -10,7 +10,7 @@ use encoding::token_kinds::{
     UNSIGNED_WORD, VOID_WORD,
 };
 
-#[derive(Clone, Copy)]
+#[derive(Clone, Copy, Default)]
 pub struct Words {
     pub void: u32,
     pub char: u32,
@@ -29,39 +29,28 @@ impl Words {
     pub fn none() -> Words
         ensures { counts result ≡ no_words }
     {
-        Words {
-            void: 0,
-            char: 0,
-            short: 0,
-            int: 0,
-            long: 0,
-            float: 0,
-            double: 0,
-            signed: 0,
-            unsigned: 0,
-            bool: 0,
-            complex: 0,
-        }
+        Words::default()
     }
 
     // One more of a type word.
+    #[tactic(auto, unfolding(definition::specs::Specifier::with_word, definition::specs::Specifier::total, definition::specs::Specifier::is_type_word))]
     pub fn with_word(mut self, kind: u32) -> Words
         requires at_most { AtMost max_text (counts self) }
         requires kind_value { is_type_word kind ≡ true }
         ensures { counts result ≡ with_word kind (counts self) }
     {
         match kind {
-            VOID_WORD => self.void = self.void + 1,
-            CHAR_WORD => self.char = self.char + 1,
-            SHORT_WORD => self.short = self.short + 1,
-            INT_WORD => self.int = self.int + 1,
-            LONG_WORD => self.long = self.long + 1,
-            FLOAT_WORD => self.float = self.float + 1,
-            DOUBLE_WORD => self.double = self.double + 1,
-            SIGNED_WORD => self.signed = self.signed + 1,
-            UNSIGNED_WORD => self.unsigned = self.unsigned + 1,
-            BOOL_WORD => self.bool = self.bool + 1,
-            _ => self.complex = self.complex + 1,
+            VOID_WORD => self.void += 1,
+            CHAR_WORD => self.char += 1,
+            SHORT_WORD => self.short += 1,
+            INT_WORD => self.int += 1,
+            LONG_WORD => self.long += 1,
+            FLOAT_WORD => self.float += 1,
+            DOUBLE_WORD => self.double += 1,
+            SIGNED_WORD => self.signed += 1,
+            UNSIGNED_WORD => self.unsigned += 1,
+            BOOL_WORD => self.bool += 1,
+            _ => self.complex += 1,
         }
         self
     }
@@ -81,6 +70,7 @@ impl Words {
     }
 
     // How many words there are.
+    #[tactic(auto, unfolding(definition::specs::Specifier::total))]
     pub fn total(self) -> u64
         ensures { result ≡ total (counts self) }
     {

@@ -7,7 +7,7 @@ ghost use Rattle.words.specs.Meaning.{qualifiers, qualifiers_in};
 
 use encoding::token_kinds::{CONST_WORD, RESTRICT_WORD, VOLATILE_WORD};
 
-#[derive(Clone, Copy)]
+#[derive(Clone, Copy, Default, PartialEq, Eq)]
 pub struct Qualifiers {
     pub is_const: bool,
     pub is_volatile: bool,
@@ -18,23 +18,20 @@ impl Qualifiers {
     pub fn none() -> Qualifiers
         ensures { qualifiers result ≡ unqualified }
     {
-        Qualifiers {
-            is_const: false,
-            is_volatile: false,
-            is_restrict: false,
-        }
+        Qualifiers::default()
     }
 
-    pub fn with_qualifier(self, kind: u32) -> Qualifiers
+    #[tactic(auto, unfolding(definition::specs::Specifier::with_qualifier))]
+    pub fn with_qualifier(mut self, kind: u32) -> Qualifiers
         ensures { qualifiers result ≡ with_qualifier kind (qualifiers self) }
     {
-        Qualifiers {
-            is_const: self.is_const | (kind == CONST_WORD),
-            is_volatile: self.is_volatile | (kind == VOLATILE_WORD),
-            is_restrict: self.is_restrict | (kind == RESTRICT_WORD),
-        }
+        self.is_const |= kind == CONST_WORD;
+        self.is_volatile |= kind == VOLATILE_WORD;
+        self.is_restrict |= kind == RESTRICT_WORD;
+        self
     }
 
+    #[tactic(auto, unfolding(definition::specs::Types::merged))]
     pub fn merged(self, other: Qualifiers) -> Qualifiers
         ensures { qualifiers result ≡ merged (qualifiers self) (qualifiers other) }
     {
@@ -45,21 +42,24 @@ impl Qualifiers {
         }
     }
 
+    #[tactic(auto, unfolding(definition::specs::Types::is_unqualified))]
     pub fn is_unqualified(self) -> bool
         ensures { result ≡ is_unqualified (qualifiers self) }
     {
-        !(self.is_const | (self.is_volatile | self.is_restrict))
+        self == Qualifiers::none()
     }
 
     // As the flags of a row: c is 1, v is 2, r is 4.
+    #[tactic(auto, unfolding(definition::specs::Row::qualifier_bits))]
     pub fn bits(self) -> u32
         ensures { result ≡ qualifier_bits (qualifiers self) }
     {
-        (self.is_const as u32) + 2 * (self.is_volatile as u32) + 4 * (self.is_restrict as u32)
+        u32::from(self.is_const) + 2 * u32::from(self.is_volatile) + 4 * u32::from(self.is_restrict)
     }
 
     // The qualifiers of a row's flags.
-    pub fn from_bits(bits: u32) -> Qualifiers
+    #[tactic(auto, unfolding(crate::specs::Meaning::qualifiers_in))]
+    pub fn from_bits(bits: u64) -> Qualifiers
         ensures { qualifiers result ≡ qualifiers_in bits }
     {
         Qualifiers {

@@ -10,18 +10,12 @@ use crate::counts::Words;
 use crate::qualifiers::Qualifiers;
 use encoding::storage::Storage;
 
-// The row of a struct, union, enum or type name.
-#[derive(Clone, Copy)]
-pub enum Base {
-    Row(u32),
-    Absent,
-}
-
+// The base is the row of a struct, union, enum or type name.
 #[derive(Clone, Copy)]
 pub struct Specifiers {
     pub storage: Storage,
     pub qualifiers: Qualifiers,
-    pub base: Base,
+    pub base: Option<u32>,
     pub words: Words,
 }
 
@@ -32,7 +26,7 @@ impl Specifiers {
         Specifiers {
             storage: Storage::NoStorage,
             qualifiers: Qualifiers::none(),
-            base: Base::Absent,
+            base: None,
             words: Words::none(),
         }
     }
@@ -40,42 +34,27 @@ impl Specifiers {
     pub fn storing(self, class: Storage) -> Specifiers
         ensures { specifiers result ≡ storing (specifiers self) (storage class) }
     {
-        let qualifiers = self.qualifiers;
-        let base = self.base;
-        let words = self.words;
         Specifiers {
             storage: class,
-            qualifiers,
-            base,
-            words,
+            ..self
         }
     }
 
     pub fn qualifying(self, said: Qualifiers) -> Specifiers
         ensures { specifiers result ≡ qualifying (specifiers self) (qualifiers said) }
     {
-        let storage = self.storage;
-        let base = self.base;
-        let words = self.words;
         Specifiers {
-            storage,
             qualifiers: said,
-            base,
-            words,
+            ..self
         }
     }
 
     pub fn based_on(self, row: u32) -> Specifiers
         ensures { specifiers result ≡ based_on (specifiers self) row }
     {
-        let storage = self.storage;
-        let qualifiers = self.qualifiers;
-        let words = self.words;
         Specifiers {
-            storage,
-            qualifiers,
-            base: Base::Row(row),
-            words,
+            base: Some(row),
+            ..self
         }
     }
 
@@ -85,27 +64,17 @@ impl Specifiers {
         requires kind_value { is_type_word kind ≡ true }
         ensures { specifiers result ≡ wording (specifiers self) kind }
     {
-        let storage = self.storage;
-        let qualifiers = self.qualifiers;
-        let base = self.base;
-        let words = self.words;
         Specifiers {
-            storage,
-            qualifiers,
-            base,
-            words: words.with_word(kind),
+            words: self.words.with_word(kind),
+            ..self
         }
     }
 
     // A type has been named, by a row or by words.
+    #[tactic(auto, unfolding(definition::specs::Specifier::names_type))]
     pub fn names_type(self) -> bool
         ensures { result ≡ names_type (specifiers self) }
     {
-        let base = self.base;
-        let words = self.words;
-        match base {
-            Base::Row(_) => true,
-            Base::Absent => 0 < words.total(),
-        }
+        self.base.is_some() || 0 < self.words.total()
     }
 }

@@ -7,6 +7,7 @@ use encoding::storage::Storage;
 use encoding::token_kinds::{EXTERN_WORD, STATIC_WORD, TYPEDEF_WORD};
 
 // The storage that a keyword says; `register` is automatic.
+#[tactic(auto, unfolding(definition::specs::Specifier::storage_of))]
 pub fn storage_of(kind: u32) -> Storage
     ensures { storage result ≡ storage_of kind }
 {

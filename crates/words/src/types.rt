@@ -1,6 +1,5 @@
 // The types that words make, and those of the names that every program assumes.
 ghost use Rattle.std.specs.Prelude.{◌≡◌, true, false};
-ghost use Rattle.std.proofs.Math.Option.{some};
 ghost use Rattle.definition.specs.Row.{Row, void, int, float, bool};
 ghost use Rattle.definition.specs.Specifier.{only_word, double_type, char_type, short_type, int_type, combine, builtin};
 ghost use Rattle.model.specs.Meaning.{model};
@@ -23,13 +22,7 @@ pub struct BaseRow {
     pub extent: u64,
 }
 
-// A type's row, or nothing where there is no type.
-#[derive(Clone, Copy)]
-pub enum Known {
-    Row(BaseRow),
-    Nothing,
-}
-
+#[tactic(auto, unfolding(crate::specs::Meaning::numbers, definition::specs::Row::kind_of, definition::specs::Row::flags_of, definition::specs::Row::extent_of))]
 impl BaseRow {
     pub fn void() -> BaseRow
         ensures { result ≡ numbers void }
@@ -66,145 +59,135 @@ impl BaseRow {
     {
         BaseRow {
             kind: INT_KIND,
-            flags: signed as u32,
+            flags: u32::from(signed),
             extent: bytes,
         }
     }
 }
 
 // A word that stands alone.
-fn only_word(words: Words, row: BaseRow) -> Known
+#[tactic(auto, unfolding(crate::specs::Meaning::known))]
+fn only_word(words: Words, row: BaseRow) -> Option<BaseRow>
     ensures { (x : Row) → row ≡ numbers x → result ≡ known (only_word (counts words) x) }
 {
-    if words.total() == 1 {
-        return Known::Row(row);
-    }
-    Known::Nothing
+    if words.total() == 1 { Some(row) } else { None }
 }
 
 // `double` and `long double`.
-fn double_type(m: Model, words: Words) -> Known
+#[tactic(auto, unfolding(crate::specs::Meaning::known, definition::specs::Specifier::double_type))]
+fn double_type(m: Model, words: Words) -> Option<BaseRow>
     ensures { result ≡ known (double_type (model m) (counts words)) }
 {
-    let signs = words.signs();
-    if (0 < words.short) | ((0 < words.int) | ((0 < signs) | (1 < words.long))) {
-        return Known::Nothing;
+    if 0 < words.short || 0 < words.int || 0 < words.signs() || 1 < words.long {
+        return None;
     }
-    if words.long == 1 {
-        return Known::Row(BaseRow::float(m.long_double));
-    }
-    Known::Row(BaseRow::float(m.double))
+    let bytes = if words.long == 1 {
+        m.long_double
+    } else {
+        m.double
+    };
+    Some(BaseRow::float(bytes))
 }
 
 // `char`, whose sign is the model's unless one is said.
-fn char_type(m: Model, words: Words) -> Known
+#[tactic(auto, unfolding(crate::specs::Meaning::known, definition::specs::Specifier::char_type))]
+fn char_type(m: Model, words: Words) -> Option<BaseRow>
     ensures { result ≡ known (char_type (model m) (counts words)) }
 {
-    if (0 < words.short) | ((0 < words.long) | (0 < words.int)) {
-        return Known::Nothing;
+    if 0 < words.short || 0 < words.long || 0 < words.int {
+        return None;
     }
-    if words.signs() == 0 {
-        return Known::Row(BaseRow::int(1, m.char_signed));
-    }
-    Known::Row(BaseRow::int(1, words.signedness()))
+    let signed = if words.signs() == 0 {
+        m.char_signed
+    } else {
+        words.signedness()
+    };
+    Some(BaseRow::int(1, signed))
 }
 
-fn short_type(m: Model, words: Words) -> Known
+#[tactic(auto, unfolding(crate::specs::Meaning::known, definition::specs::Specifier::short_type))]
+fn short_type(m: Model, words: Words) -> Option<BaseRow>
     ensures { result ≡ known (short_type (model m) (counts words)) }
 {
     if 0 < words.long {
-        return Known::Nothing;
+        return None;
     }
-    Known::Row(BaseRow::int(m.short, words.signedness()))
+    Some(BaseRow::int(m.short, words.signedness()))
 }
 
 // `int`, `long` and `long long`, with or without a sign; no word at all is no type.
-fn int_type(m: Model, words: Words) -> Known
+#[tactic(auto, unfolding(crate::specs::Meaning::known, definition::specs::Specifier::int_type))]
+fn int_type(m: Model, words: Words) -> Option<BaseRow>
     ensures { result ≡ known (int_type (model m) (counts words)) }
 {
     let total = words.total();
     let ints = words.int as u64 + words.signs() + words.long as u64;
-    if (ints == total) & (0 < total) {
-        let signed = words.signedness();
-        let long = words.long;
-        match long {
-            0 => return Known::Row(BaseRow::int(m.int, signed)),
-            1 => return Known::Row(BaseRow::int(m.long, signed)),
-            2 => return Known::Row(BaseRow::int(m.long_long, signed)),
-            _ => return Known::Nothing,
-        }
+    if ints != total || total == 0 {
+        return None;
     }
-    Known::Nothing
+    let bytes = match words.long {
+        0 => m.int,
+        1 => m.long,
+        2 => m.long_long,
+        _ => return None,
+    };
+    Some(BaseRow::int(bytes, words.signedness()))
 }
 
 // The type that words make, if any.
-pub fn combine(m: Model, words: Words) -> Known
+#[tactic(auto, unfolding(crate::specs::Meaning::known, definition::specs::Specifier::combine))]
+pub fn combine(m: Model, words: Words) -> Option<BaseRow>
     ensures { result ≡ known (combine (model m) (counts words)) }
 {
-    if 1 < words.signs() {
-        return Known::Nothing;
+    if 1 < words.signs() || 0 < words.complex {
+        None
+    } else if 0 < words.void {
+        only_word(words, BaseRow::void())
+    } else if 0 < words.bool {
+        only_word(words, BaseRow::bool())
+    } else if 0 < words.float {
+        only_word(words, BaseRow::float(m.float))
+    } else if 0 < words.double {
+        double_type(m, words)
+    } else if 0 < words.char {
+        char_type(m, words)
+    } else if 0 < words.short {
+        short_type(m, words)
+    } else {
+        int_type(m, words)
     }
-    if 0 < words.complex {
-        return Known::Nothing;
-    }
-    if 0 < words.void {
-        return only_word(words, BaseRow::void());
-    }
-    if 0 < words.bool {
-        return only_word(words, BaseRow::bool());
-    }
-    if 0 < words.float {
-        return only_word(words, BaseRow::float(m.float));
-    }
-    if 0 < words.double {
-        return double_type(m, words);
-    }
-    if 0 < words.char {
-        return char_type(m, words);
-    }
-    if 0 < words.short {
-        return short_type(m, words);
-    }
-    int_type(m, words)
 }
 
-fn signed(bytes: u64) -> Known
-    ensures { result ≡ known (some (int bytes true)) }
+fn signed(bytes: u64) -> BaseRow
+    ensures { result ≡ numbers (int bytes true) }
 {
-    Known::Row(BaseRow::int(bytes, true))
+    BaseRow::int(bytes, true)
 }
 
-fn unsigned(bytes: u64) -> Known
-    ensures { result ≡ known (some (int bytes false)) }
+fn unsigned(bytes: u64) -> BaseRow
+    ensures { result ≡ numbers (int bytes false) }
 {
-    Known::Row(BaseRow::int(bytes, false))
+    BaseRow::int(bytes, false)
 }
 
 // The type of a name that every program assumes.
-pub fn builtin(m: Model, kind: u32) -> Known
+#[tactic(auto, unfolding(crate::specs::Meaning::known, definition::specs::Specifier::builtin, definition::specs::Specifier::type_in))]
+pub fn builtin(m: Model, kind: u32) -> Option<BaseRow>
     ensures { result ≡ known (builtin (model m) kind) }
 {
-    match kind {
+    let row = match kind {
         INT8_NAME => signed(1),
         INT16_NAME => signed(2),
-        INT32_NAME => signed(4),
-        INT64_NAME => signed(8),
-        UINT8_NAME => unsigned(1),
-        UINT16_NAME => unsigned(2),
-        UINT32_NAME => unsigned(4),
-        UINT64_NAME => unsigned(8),
-        INTMAX_NAME => signed(8),
-        UINTMAX_NAME => unsigned(8),
-        INTPTR_NAME => signed(m.pointer),
-        SSIZE_NAME => signed(m.pointer),
-        PTRDIFF_NAME => signed(m.pointer),
-        UINTPTR_NAME => unsigned(m.pointer),
-        SIZE_NAME => unsigned(m.pointer),
-        WCHAR_NAME => signed(4),
-        CHAR8_NAME => unsigned(1),
-        CHAR16_NAME => unsigned(2),
-        CHAR32_NAME => unsigned(4),
-        BOOL_NAME => Known::Row(BaseRow::bool()),
-        _ => Known::Nothing,
-    }
+        INT32_NAME | WCHAR_NAME => signed(4),
+        INT64_NAME | INTMAX_NAME => signed(8),
+        INTPTR_NAME | SSIZE_NAME | PTRDIFF_NAME => signed(m.pointer),
+        UINT8_NAME | CHAR8_NAME => unsigned(1),
+        UINT16_NAME | CHAR16_NAME => unsigned(2),
+        UINT32_NAME | CHAR32_NAME => unsigned(4),
+        UINT64_NAME | UINTMAX_NAME => unsigned(8),
+        UINTPTR_NAME | SIZE_NAME => unsigned(m.pointer),
+        BOOL_NAME => BaseRow::bool(),
+        _ => return None,
+    };
+    Some(row)
 }

@@ -39,5 +39,5 @@ unfolding named_type
 returns c = let is = ap is_name (sym c.kind_at-kind.ensures.is) ∙ (sym c.is_name.ensures ∙ not-false _ c.if-not-is_name.false-raw) in
     record {
       run = λ t h. yes! _ _ _ is (none! _ _ _ (ap (λ z. typedef_row t z) (sym c.name_at.ensures.is) ∙ (sym (c.typedef_row-f.ensures.of t h.words h.index h.counts) ∙ ap found c.in_default.is))
-          (added _ _ (builtin-plain _ _) (sym c.in-Row.is ∙ (c.builtin-k.ensures ∙ ap (λ z. known (builtin (model c.args.m) z)) c.kind_at-kind.ensures.is)) c.add_base.ensures h));
+          (added _ _ (builtin-plain _ _) (sym c.in-Some.is ∙ (c.builtin-k.ensures ∙ ap (λ z. known (builtin (model c.args.m) z)) c.kind_at-kind.ensures.is)) c.add_base.ensures h));
     }

@@ -8,9 +8,9 @@ use Rattle.words.proofs.Uses.{combine-plain}
 use Rattle.base_types.proofs.Named.{added, none-added}
 use Rattle.base_types.proofs.words_type.Goals as goal
 
-pub returns-in-Row : goal.returns-in-Row
+pub returns-in-Some : goal.returns-in-Some
 unfolding words_type
-returns-in-Row c = record { run = λ t h. some! _ _ _ (ap base c.in-Row.is) (got! h) }
+returns-in-Some c = record { run = λ t h. some! _ _ _ (ap base c.in-Some.is) (got! h) }
 
 pub returns-in_default-k : goal.returns-in_default-k
 unfolding words_type
@@ -18,4 +18,4 @@ returns-in_default-k c = record { run = λ t h. none! _ _ _ (ap base c.in_defaul
 
 pub returns : goal.returns
 unfolding words_type
-returns c = record { run = λ t h. none! _ _ _ (ap base c.in_default.is) (added _ _ (combine-plain _ _) (sym c.in-Row-k.is ∙ c.combine-k.ensures) c.add_base.ensures h) }
+returns c = record { run = λ t h. none! _ _ _ (ap base c.in_default.is) (added _ _ (combine-plain _ _) (sym c.in-Some-k.is ∙ c.combine-k.ensures) c.add_base.ensures h) }

@@ -1,5 +1,0 @@
-use Rattle.words.proofs.Laws.{row! }
-use Rattle.words.proofs.types.unsigned.Goals as goal
-
-pub returns : goal.returns
-returns c = row! _ c.int.ensures
