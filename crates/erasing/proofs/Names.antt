@@ -16,8 +16,9 @@ use Rattle.table.specs.Held.{reading_words, top_at, marks_at, InWords, Marked}
 use Rattle.table.proofs.Flat.{get_after}
 use Rattle.table.proofs.Regions.{table-long, words_long}
 use Rattle.table.proofs.Index.{rest-get}
-use Rattle.erasing.specs.Taken.{Blank, Out, NamesOut}
+use Rattle.erasing.specs.Taken.{Out, NamesOut}
 use Rattle.erasing.specs.Erased.{IndexCleared}
+use Rattle.erasing.proofs.Blanks.{Blank}
 
 -- the index, then the marks
 module _ {top : ℕ} {w u w' : List ℕ} (o : Out 0 names_at (names_at + top) (names_at + marks_at) w u) (b : Blank 0 (names_at + marks_at) words_length u w') (e : top ≡ get_or w (names_at + top_at) 0) where

@@ -8,13 +8,7 @@ module _ {E : Type 0} (z : E) where
   abbrev pub Zeros : ℕ → ℕ → List E → Type 0
   Zeros from to xs = (i : ℕ) → from ≤ i → i < to → get_or xs i z ≡ z
 
-  -- they are now, and the others stand
-  pub record Blank (from to : ℕ) (xs xs' : List E) : Type 0 where
-    pub long : length xs' ≡ length xs
-    pub inside : Zeros from to xs'
-    pub others : (i : ℕ) → (from ≤ i → i < to → ⊥) → get_or xs' i z ≡ get_or xs i z
-
-  -- the same of a region that was zero from `used` on
+  -- a region that was zero from `used` on is zero, and the others stand
   pub record Out (from used to : ℕ) (xs xs' : List E) : Type 0 where
     pub long : length xs' ≡ length xs
     pub zero : Zeros used to xs → Zeros from to xs'

@@ -1,9 +1,9 @@
 #![tactic(auto)]
 // The index of names and the marks, taken out of the lent slices, and all that a refused text left.
-ghost use Rattle.std.specs.Prelude.{◌≡◌, ◌+◌, ◌*◌, ◌≤◌, ◌<◌, pos, length};
+ghost use Rattle.std.specs.Prelude.{◌≡◌, ◌+◌, ◌*◌, min, pos, length};
 ghost use Rattle.definition.specs.Limit.{max_rows, max_values};
 ghost use Rattle.definition.specs.Region.{words_length, wides_length, signeds_length, members_at, values_at, parameters_at, declarations_at, names_at};
-ghost use Rattle.erasing.specs.Taken.{Blank, Out, NamesOut, RestOut, counted};
+ghost use Rattle.erasing.specs.Taken.{Out, NamesOut, RestOut, counted};
 ghost use Rattle.erasing.specs.Erased.{IndexCleared, Erased};
 
 use encoding::regions::{
@@ -14,57 +14,13 @@ use encoding::regions::{
 use model::Model;
 use table::{LAST_DECLARATION, LAST_MEMBER, LAST_PARAMETER, LAST_ROW, LAST_VALUE, TOP};
 
-// ---- parts of a slice
-
-fn clear_words(w: &mut [u32], from: usize, to: usize)
-    requires { (from ≤ to) × (to ≤ length w.old) }
-    ensures { Blank 0 from to w.old w.new }
-{
-    let mut i = from;
-    while i < to {
-        w[i] = 0;
-        i = i + 1;
-    }
-}
-
-fn clear_wides(d: &mut [u64], from: usize, to: usize)
-    requires { (from ≤ to) × (to ≤ length d.old) }
-    ensures { Blank 0 from to d.old d.new }
-{
-    let mut i = from;
-    while i < to {
-        d[i] = 0;
-        i = i + 1;
-    }
-}
-
-fn clear_signeds(v: &mut [i64], from: usize, to: usize)
-    requires { (from ≤ to) × (to ≤ length v.old) }
-    ensures { Blank (pos 0) from to v.old v.new }
-{
-    let mut i = from;
-    while i < to {
-        v[i] = 0;
-        i = i + 1;
-    }
-}
-
 // ---- what the marks count
-
-fn at_most(n: usize, most: usize) -> usize
-    ensures { (result ≤ most) × (result < most → result ≡ n) }
-{
-    if n < most {
-        return n;
-    }
-    most
-}
 
 // The entries up to the last: a mark of 0 may be that of the first one, or of none.
 fn entries(mark: u32, most: usize) -> usize
-    ensures { (result ≤ most) × (result < most → result ≡ mark + 1) }
+    ensures { result ≡ min (mark + 1) most }
 {
-    at_most(mark as usize + 1, most)
+    (mark as usize + 1).min(most)
 }
 
 // The index ends where the marks begin.
@@ -72,9 +28,9 @@ fn clear_names(w: &mut [u32])
     requires { length w.old ≡ words_length }
     ensures { NamesOut w.old w.new }
 {
-    let end = at_most(NAMES_AT + w[TOP] as usize, LAST_ROW);
-    clear_words(w, NAMES_AT, end);
-    clear_words(w, LAST_ROW, WORDS);
+    let end = (NAMES_AT + w[TOP] as usize).min(LAST_ROW);
+    w[NAMES_AT..end].fill(0);
+    w[LAST_ROW..WORDS].fill(0);
 }
 
 // The index and the marks taken out: the names' part is zero again. A slice of another length holds no table.
@@ -94,8 +50,8 @@ fn clear_rows(w: &mut [u32], d: &mut [u64])
     ensures { Out 0 0 (6 * counted w.old 0) (6 * max_rows) w.old w.new × Out 0 0 (counted w.old 0) max_rows d.old d.new }
 {
     let rows = entries(w[LAST_ROW], Model::MAX_ROWS);
-    clear_words(w, 0, ROW_COLUMNS * rows);
-    clear_wides(d, 0, rows);
+    w[..ROW_COLUMNS * rows].fill(0);
+    d[..rows].fill(0);
 }
 
 fn clear_members(w: &mut [u32], d: &mut [u64])
@@ -103,12 +59,8 @@ fn clear_members(w: &mut [u32], d: &mut [u64])
     ensures { Out 0 members_at (members_at + 4 * counted w.old 1) values_at w.old w.new × Out 0 1024 (1024 + 2 * counted w.old 1) wides_length d.old d.new }
 {
     let members = entries(w[LAST_MEMBER], Model::MAX_MEMBERS);
-    clear_words(w, MEMBERS_AT, MEMBERS_AT + MEMBER_COLUMNS * members);
-    clear_wides(
-        d,
-        MEMBER_WIDES_AT,
-        MEMBER_WIDES_AT + MEMBER_WIDE_COLUMNS * members,
-    );
+    w[MEMBERS_AT..MEMBERS_AT + MEMBER_COLUMNS * members].fill(0);
+    d[MEMBER_WIDES_AT..MEMBER_WIDES_AT + MEMBER_WIDE_COLUMNS * members].fill(0);
 }
 
 fn clear_values(w: &mut [u32], v: &mut [i64])
@@ -116,8 +68,8 @@ fn clear_values(w: &mut [u32], v: &mut [i64])
     ensures { Out 0 values_at (values_at + 2 * counted w.old 2) parameters_at w.old w.new × Out (pos 0) 0 (counted w.old 2) max_values v.old v.new }
 {
     let values = entries(w[LAST_VALUE], Model::MAX_VALUES);
-    clear_words(w, VALUES_AT, VALUES_AT + VALUE_COLUMNS * values);
-    clear_signeds(v, 0, values);
+    w[VALUES_AT..VALUES_AT + VALUE_COLUMNS * values].fill(0);
+    v[..values].fill(0);
 }
 
 fn clear_parameters(w: &mut [u32])
@@ -125,11 +77,7 @@ fn clear_parameters(w: &mut [u32])
     ensures { Out 0 parameters_at (parameters_at + 3 * counted w.old 3) declarations_at w.old w.new }
 {
     let parameters = entries(w[LAST_PARAMETER], Model::MAX_PARAMETERS);
-    clear_words(
-        w,
-        PARAMETERS_AT,
-        PARAMETERS_AT + PARAMETER_COLUMNS * parameters,
-    );
+    w[PARAMETERS_AT..PARAMETERS_AT + PARAMETER_COLUMNS * parameters].fill(0);
 }
 
 fn clear_declarations(w: &mut [u32])
@@ -137,11 +85,7 @@ fn clear_declarations(w: &mut [u32])
     ensures { Out 0 declarations_at (declarations_at + 3 * counted w.old 4) names_at w.old w.new }
 {
     let declarations = entries(w[LAST_DECLARATION], Model::MAX_DECLARATIONS);
-    clear_words(
-        w,
-        DECLARATIONS_AT,
-        DECLARATIONS_AT + DECLARATION_COLUMNS * declarations,
-    );
+    w[DECLARATIONS_AT..DECLARATIONS_AT + DECLARATION_COLUMNS * declarations].fill(0);
 }
 
 // All of w after the values.

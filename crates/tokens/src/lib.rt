@@ -5,7 +5,6 @@ ghost use Rattle.definition.specs.Cut.{tokenize};
 ghost use Rattle.lexer.specs.Columns.{RoomIf, Zero, Lexes};
 ghost use Rattle.tokens.specs.Answered.{out, answered};
 
-use clearing::{clear_u32, clear_u64};
 use encoding::refusals::BAD_CALL;
 use lexer::{Lexing, lex};
 use model::Model;
@@ -19,9 +18,9 @@ fn clear(kinds: &mut [u32], places: &mut [u32], numbers: &mut [u64])
     ensures places_cleared { places.new ≡ replicate (length places.old) 0 }
     ensures numbers_cleared { numbers.new ≡ replicate (length numbers.old) 0 }
 {
-    clear_u32(kinds);
-    clear_u32(places);
-    clear_u64(numbers);
+    kinds.fill(0);
+    places.fill(0);
+    numbers.fill(0);
 }
 
 // With links for any text.

@@ -1,6 +1,7 @@
 use native.Mathlib.Omega.{arith}
-use Rattle.erasing.proofs.Blanks.{out_of}
+use borrow.Author.Rules.{rules}
+use Rattle.erasing.proofs.Blanks.{emptied}
 use Rattle.erasing.proofs.clear_members.Goals as goal
 
 pub returns : goal.returns
-returns c = (out_of 0 c.clear_words.ensures (omega (arith, c.entries-members.ensures.0)) (λ s. omega (arith, c.entries-members.ensures.1 (omega arith))), out_of 0 c.clear_wides.ensures (omega (arith, c.entries-members.ensures.0)) (λ s. omega (arith, c.entries-members.ensures.1 (omega arith))))
+returns c = (emptied 0 _ _ _ _ _ _ (c.fill.ensures.after (search rules)) (omega arith) (omega arith) (λ s. omega arith), emptied 0 _ _ _ _ _ _ (c.fill-2.ensures.after (search rules)) (omega arith) (omega arith) (λ s. omega arith))

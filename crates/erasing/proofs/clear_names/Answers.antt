@@ -1,21 +1,20 @@
-use native.Mathlib.Omega.{arith}
-use Prim.Native.Nat.{◌+◌}
 use mathlib.Core.Path.{refl}
-use Prim.Native.Nat.{◌+◌}
-use Rattle.erasing.proofs.Blanks.{capped, out_of}
+use mathlib.Core.List.{List}
+use Prim.Native.Nat.{ℕ, ◌+◌, ◌-◌}
+use native.Mathlib.Omega.{arith}
+use lib.ListN.{get_or}
+use borrow.Author.Rules.{rules}
+use borrow.Rule.Slice.PartMut.{put_mid}
+use Rattle.definition.specs.Region.{words_length, names_at}
+use Rattle.table.specs.Held.{marks_at, top_at}
+use Rattle.erasing.specs.Taken.{Out}
+use Rattle.erasing.proofs.Blanks.{filled, emptied}
 use Rattle.erasing.proofs.Names.{names-out}
-use Rattle.definition.specs.Region.{names_at}
-use Rattle.table.specs.Held.{top_at}
 use Rattle.erasing.proofs.clear_names.Goals as goal
 
-pub overflow_cast-w : goal.overflow_cast-w
-overflow_cast-w c = omega (arith, c.slice_known-1.given (names_at + top_at))
-
-pub overflow_add-w : goal.overflow_add-w
-overflow_add-w c = omega (arith, c.slice_known-1.given (names_at + top_at))
-
-pub clear_words-requires : goal.clear_words-requires
-clear_words-requires c = (capped c.at_most-end.ensures names_at (omega arith) (omega arith), omega arith)
-
 pub returns : goal.returns
-returns c = names-out (out_of 0 c.clear_words.ensures c.at_most-end.ensures.0 (λ s. omega (arith, c.at_most-end.ensures.1 s))) c.clear_words-2.ensures refl
+returns c =
+    let w = c.args.w.now in
+    let u : List ℕ = put_mid names_at (c.min-end.result - names_at) w c.fill.new.self in
+    let o : Out 0 names_at (names_at + get_or w (names_at + top_at) 0) (names_at + marks_at) w u = emptied 0 _ _ _ _ _ _ (c.fill.ensures.after (search rules)) (omega arith) (omega arith) (λ s. omega arith) in
+    names-out o (filled 0 _ 6 words_length u _ (c.fill-2.ensures.after (search rules)) refl (omega (arith, o.long))) refl

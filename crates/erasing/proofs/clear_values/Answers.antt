@@ -1,7 +1,8 @@
 use native.Mathlib.Omega.{arith}
-use Rattle.erasing.proofs.Blanks.{out_of}
+use borrow.Author.Rules.{rules}
 use lib.IntN.{pos}
+use Rattle.erasing.proofs.Blanks.{emptied}
 use Rattle.erasing.proofs.clear_values.Goals as goal
 
 pub returns : goal.returns
-returns c = (out_of 0 c.clear_words.ensures (omega (arith, c.entries-values.ensures.0)) (λ s. omega (arith, c.entries-values.ensures.1 (omega arith))), out_of (pos 0) c.clear_signeds.ensures (omega (arith, c.entries-values.ensures.0)) (λ s. omega (arith, c.entries-values.ensures.1 (omega arith))))
+returns c = (emptied 0 _ _ _ _ _ _ (c.fill.ensures.after (search rules)) (omega arith) (omega arith) (λ s. omega arith), emptied (pos 0) 0 c.entries-values.result _ _ c.args.v.now _ (c.fill-2.ensures.after (search rules)) (omega arith) (omega arith) (λ s. omega arith))
