@@ -30,7 +30,7 @@ use Rattle.definition_laws.proofs.Left.{Long}
 use Rattle.scan.specs.declared.Spot.{Spot}
 use Rattle.scan.specs.Where.{place}
 use Rattle.lemmas.proofs.Branch.{yes, nay}
-use Rattle.spellings.specs.Chain.{HeadCount}
+use Rattle.spellings.specs.Chain.{HeadCount, few, many}
 use Rattle.name_table.specs.Striking.{PlacesBelow}
 use Rattle.lexer.specs.Columns as columns
 use Rattle.lexer.specs.declared.Lexing.{Lexing}
@@ -94,6 +94,11 @@ module _ {n asked : ℕ} (h : Asked n asked) where
 
   pub within : (size : ℕ) → asked ≤ size → FitsIf n size
   within size q = record { run = λ l. let m = h.does.run l in omega arith }
+
+-- how many heads there are at the most
+pub few_heads : {n : ℕ} → HeadCount n → n ≤ 4096
+few_heads (few e) = omega arith
+few_heads (many e) = omega arith
 
 -- scratch of zeros as long as a text may be
 module _ (n heads : ℕ) (text : Bytes) (room : length text ≤ max_text → length text ≤ n) (k : HeadCount heads) {ks ps ns ls : List ℕ} (a : ks ≡ replicate n 0) (b : ps ≡ replicate n 0) (c : ns ≡ replicate n 0)

@@ -87,19 +87,6 @@ pub record Scratch (text : Bytes) (ks ps ns ls : List ℕ) (heads : ℕ) : Type 
   pub zero : Zero ks ps ns
   pub links : LinksIf text ls heads
 
--- the lengths that there are, but for the longest
-abbrev pub tiny_text : ℕ
-tiny_text = 64
-
-abbrev pub small_text : ℕ
-small_text = 320
-
-abbrev pub middle_text : ℕ
-middle_text = 1536
-
-abbrev pub large_text : ℕ
-large_text = 7168
-
 -- a text of some length, that is not too long, is not longer
 pub record FitsIf (n size : ℕ) : Type 0 where
   pub run : n ≤ max_text → n ≤ size

@@ -1,6 +1,7 @@
 #![tactic(auto)]
 // The two entries on texts: `translation_unit` and `declaration`, over slices that the caller lends.
-ghost use Rattle.std.specs.Prelude.{◌≡◌, length};
+ghost use Rattle.std.specs.Prelude.{◌≡◌, ◌+◌, ◌*◌, ◌≤◌, length};
+ghost use Rattle.definition.specs.Limit.{max_text};
 ghost use Rattle.definition.specs.Token.{here};
 ghost use Rattle.definition.specs.Entry.{parse, read_with, wholeHeader, singleDeclaration};
 ghost use Rattle.definition.specs.Table.{new_table};
@@ -8,10 +9,11 @@ ghost use Rattle.model.specs.Meaning.{model};
 ghost use Rattle.table.specs.Held.{Encodes};
 ghost use Rattle.definition_laws.specs.Columns.{Columns};
 ghost use Rattle.name_table.specs.Striking.{PlacesBelow};
+ghost use Rattle.spellings.specs.Chain.{HeadCount};
 ghost use Rattle.clearing.specs.Slices.{lent};
 ghost use Rattle.definition.specs.Lent.{long_enough};
 ghost use Rattle.entry_points.specs.Walking.{Walkable};
-ghost use Rattle.entry_points.specs.Answers.{entry_of, lexed, first_cursor, counts_from, Parses, Read, Reads, Scratch, tiny_text, small_text, middle_text, large_text, FitsIf, Asked, Cleared, as_long, concluded, rejected_at, out, answered, Answers};
+ghost use Rattle.entry_points.specs.Answers.{entry_of, lexed, first_cursor, counts_from, Parses, Read, Reads, Scratch, FitsIf, Asked, Cleared, as_long, concluded, rejected_at, out, answered, Answers};
 
 use clearing::clear;
 use declarations::{declarations, lone_declaration};
@@ -253,23 +255,27 @@ fn read_columns(
     }
 }
 
-// Scratch of each length.
-fn read_tiny(
+// In scratch of a length, with links for so many heads.
+fn read_in<const LENGTH: usize, const LINKED: usize>(
     entry: Entry,
     text: &[u8],
+    heads: usize,
     m: Model,
     w: &mut [u32],
     d: &mut [u64],
     v: &mut [i64],
 ) -> Reading
-    requires fits_if { FitsIf (length text.now) tiny_text }
+    requires fits_if { FitsIf (length text.now) LENGTH }
+    requires short { LENGTH ≤ max_text }
+    requires head_count { HeadCount heads }
+    requires linked { LINKED ≡ heads + 2 * LENGTH }
     requires encodes { Encodes new_table first_cursor w.old d.old v.old }
     ensures { Read (read_with (model m) (entry_of entry) text.now) w.old d.old v.old result w.new d.new v.new }
 {
-    let mut kinds = [0u32; TINY_TEXT];
-    let mut places = [0u32; TINY_TEXT];
-    let mut numbers = [0u64; TINY_TEXT];
-    let mut links = [0u16; TINY_LINKS];
+    let mut kinds = [0u32; LENGTH];
+    let mut places = [0u32; LENGTH];
+    let mut numbers = [0u64; LENGTH];
+    let mut links = [0u16; LINKED];
     read_columns(
         entry,
         text,
@@ -277,131 +283,7 @@ fn read_tiny(
         &mut places,
         &mut numbers,
         &mut links,
-        FEW_HEADS,
-        m,
-        w,
-        d,
-        v,
-    )
-}
-
-fn read_small(
-    entry: Entry,
-    text: &[u8],
-    m: Model,
-    w: &mut [u32],
-    d: &mut [u64],
-    v: &mut [i64],
-) -> Reading
-    requires fits_if { FitsIf (length text.now) small_text }
-    requires encodes { Encodes new_table first_cursor w.old d.old v.old }
-    ensures { Read (read_with (model m) (entry_of entry) text.now) w.old d.old v.old result w.new d.new v.new }
-{
-    let mut kinds = [0u32; SMALL_TEXT];
-    let mut places = [0u32; SMALL_TEXT];
-    let mut numbers = [0u64; SMALL_TEXT];
-    let mut links = [0u16; SMALL_LINKS];
-    read_columns(
-        entry,
-        text,
-        &mut kinds,
-        &mut places,
-        &mut numbers,
-        &mut links,
-        FEW_HEADS,
-        m,
-        w,
-        d,
-        v,
-    )
-}
-
-fn read_middle(
-    entry: Entry,
-    text: &[u8],
-    m: Model,
-    w: &mut [u32],
-    d: &mut [u64],
-    v: &mut [i64],
-) -> Reading
-    requires fits_if { FitsIf (length text.now) middle_text }
-    requires encodes { Encodes new_table first_cursor w.old d.old v.old }
-    ensures { Read (read_with (model m) (entry_of entry) text.now) w.old d.old v.old result w.new d.new v.new }
-{
-    let mut kinds = [0u32; MIDDLE_TEXT];
-    let mut places = [0u32; MIDDLE_TEXT];
-    let mut numbers = [0u64; MIDDLE_TEXT];
-    let mut links = [0u16; MIDDLE_LINKS];
-    read_columns(
-        entry,
-        text,
-        &mut kinds,
-        &mut places,
-        &mut numbers,
-        &mut links,
-        FEW_HEADS,
-        m,
-        w,
-        d,
-        v,
-    )
-}
-
-fn read_large(
-    entry: Entry,
-    text: &[u8],
-    m: Model,
-    w: &mut [u32],
-    d: &mut [u64],
-    v: &mut [i64],
-) -> Reading
-    requires fits_if { FitsIf (length text.now) large_text }
-    requires encodes { Encodes new_table first_cursor w.old d.old v.old }
-    ensures { Read (read_with (model m) (entry_of entry) text.now) w.old d.old v.old result w.new d.new v.new }
-{
-    let mut kinds = [0u32; LARGE_TEXT];
-    let mut places = [0u32; LARGE_TEXT];
-    let mut numbers = [0u64; LARGE_TEXT];
-    let mut links = [0u16; LARGE_LINKS];
-    read_columns(
-        entry,
-        text,
-        &mut kinds,
-        &mut places,
-        &mut numbers,
-        &mut links,
-        HEADS,
-        m,
-        w,
-        d,
-        v,
-    )
-}
-
-// Any text.
-fn read_longest(
-    entry: Entry,
-    text: &[u8],
-    m: Model,
-    w: &mut [u32],
-    d: &mut [u64],
-    v: &mut [i64],
-) -> Reading
-    requires { Encodes new_table first_cursor w.old d.old v.old }
-    ensures { Read (read_with (model m) (entry_of entry) text.now) w.old d.old v.old result w.new d.new v.new }
-{
-    let mut kinds = [0u32; Model::MAX_TEXT];
-    let mut places = [0u32; Model::MAX_TEXT];
-    let mut numbers = [0u64; Model::MAX_TEXT];
-    let mut links = [0u16; LONGEST_LINKS];
-    read_columns(
-        entry,
-        text,
-        &mut kinds,
-        &mut places,
-        &mut numbers,
-        &mut links,
-        HEADS,
+        heads,
         m,
         w,
         d,
@@ -428,18 +310,18 @@ fn read_asked(
         return read_asked(entry, text, asked / Model::MAX_TEXT, m, w, d, v);
     }
     if asked <= TINY_TEXT {
-        return read_tiny(entry, text, m, w, d, v);
+        return read_in::<TINY_TEXT, TINY_LINKS>(entry, text, FEW_HEADS, m, w, d, v);
     }
     if asked <= SMALL_TEXT {
-        return read_small(entry, text, m, w, d, v);
+        return read_in::<SMALL_TEXT, SMALL_LINKS>(entry, text, FEW_HEADS, m, w, d, v);
     }
     if asked <= MIDDLE_TEXT {
-        return read_middle(entry, text, m, w, d, v);
+        return read_in::<MIDDLE_TEXT, MIDDLE_LINKS>(entry, text, FEW_HEADS, m, w, d, v);
     }
     if asked <= LARGE_TEXT {
-        return read_large(entry, text, m, w, d, v);
+        return read_in::<LARGE_TEXT, LARGE_LINKS>(entry, text, HEADS, m, w, d, v);
     }
-    read_longest(entry, text, m, w, d, v)
+    read_in::<{ Model::MAX_TEXT }, LONGEST_LINKS>(entry, text, HEADS, m, w, d, v)
 }
 
 // ---- the entries
