@@ -1,8 +1,10 @@
 -- Rounding up, to a multiple of any number. Assumes nothing.
 use mathlib.Core.Path.{◌≡◌, refl, sym, ap, ◌∙◌}
-use Prim.Native.Nat.{ℕ, ◌+◌, ◌-◌, ◌*◌, ◌/◌, ◌%◌, ◌≤◌, ◌<◌}
+use Prim.Native.Nat.{ℕ, ◌+◌, ◌-◌, ◌*◌, ◌/◌, ◌%◌, ◌≤◌, ◌<◌, min}
 use native.Mathlib.Omega.{arith}
-use native.Mathlib.Nat.{div-add-mod', mod-lt, div-eq_of_lt-le, mul-div_cancel, mul-div_cancel_left, div-div-eq-div-mul, lt-div-mul-add, mul-le-mul_right}
+use mathlib.Core.Logic.{◌⊎◌, inl, inr}
+use Rattle.std.proofs.lemmas.Bool.{cases_lt}
+use native.Mathlib.Nat.{div-add-mod', mod-lt, div-eq_of_lt-le, mul-div_cancel, mul-div_cancel_left, div-div-eq-div-mul, lt-div-mul-add, mul-le-mul_right, mod-eq_of_lt, mod_self}
 use Rattle.definition.specs.Layout.{round_up}
 
 -- of the multiples of k, the one from v on and below v + k
@@ -23,14 +25,22 @@ module _ (v k : ℕ) (p : 0 < k) where
   round-below = omega (arith, rest, div-add-mod' (v + (k - 1)) k)
 
   -- a multiple is left as it is
-  pub round_whole : v % k ≡ 0 → round_up v k ≡ v
+  round_whole : v % k ≡ 0 → round_up v k ≡ v
   round_whole e = let h : v / k * k ≡ v = omega (arith, div-add-mod' v k) in round_is (v / k) (omega arith) (omega arith) ∙ h
 
   -- anything else goes on to the next
-  pub round-on : (v % k ≡ 0 → ⊥) → round_up v k ≡ v + (k - v % k)
+  round-on : (v % k ≡ 0 → ⊥) → round_up v k ≡ v + (k - v % k)
   round-on e =
       let h : (v / k + 1) * k ≡ v + (k - v % k) = omega (arith, div-add-mod' v k, mod-lt v p) in
       round_is (v / k + 1) (omega (arith, mod-lt v p)) (omega (arith, mod-lt v p)) ∙ h
+
+  -- as the machine computes it
+  pub round-next : v + (k - v % k) % k ≡ round_up v k
+  round-next = by (cases_lt 0 (v % k))
+    where
+      by : (0 < v % k) ⊎ (v % k ≤ 0) → v + (k - v % k) % k ≡ round_up v k
+      by (inl q) = rw (mod-eq_of_lt {n = k - v % k} {m = k} (omega arith)) (sym (round-on (omega arith)))
+      by (inr q) = let g : k - v % k ≡ k = omega arith in let h = round_whole (omega arith) in rw (g, mod_self k) (omega arith)
 
 -- ---- in parts of d: how many parts, rounded up to a multiple of a
 
@@ -40,13 +50,21 @@ module _ (v d : ℕ) (p : 0 < d) where
   unfolding round_up
   parts = ap (λ n. n * d) (mul-div_cancel ((v + (d - 1)) / d) p)
 
-  pub parts_whole : v % d ≡ 0 → round_up v d / d ≡ v / d
+  parts_whole : v % d ≡ 0 → round_up v d / d ≡ v / d
   parts_whole e = ap (λ n. n / d) (round_whole v d p e)
 
-  pub parts-on : (v % d ≡ 0 → ⊥) → round_up v d / d ≡ v / d + 1
+  parts-on : (v % d ≡ 0 → ⊥) → round_up v d / d ≡ v / d + 1
   parts-on e =
       let h : (v / d + 1) * d ≡ v + (d - v % d) = omega (arith, div-add-mod' v d, mod-lt v p) in
       ap (λ n. n / d) (round-on v d p e ∙ sym h) ∙ mul-div_cancel (v / d + 1) p
+
+  -- as the machine counts them
+  pub parts-ceil : v / d + min 1 (v % d) ≡ round_up v d / d
+  parts-ceil = by (cases_lt 0 (v % d))
+    where
+      by : (0 < v % d) ⊎ (v % d ≤ 0) → v / d + min 1 (v % d) ≡ round_up v d / d
+      by (inl q) = let f = parts-on (omega arith) in omega arith
+      by (inr q) = let f = parts_whole (omega arith) in omega arith
 
 multiple : (v k : ℕ) → round_up v k ≡ (v + (k - 1)) / k * k
 unfolding round_up

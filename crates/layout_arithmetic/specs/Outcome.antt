@@ -1,17 +1,14 @@
 -- What the answers of this crate mean: the definition's values, and document 01's number for each case.
-use Rattle.std.specs.Prelude.{ℕ, max}
+use Rattle.std.specs.Prelude.{ℕ, max, Option, Some, None, Result, Ok, Err}
 use Rattle.definition.specs.Answer.{Answer, got, refused}
 use Rattle.definition.specs.Refusal.{record_too_large, layout_overflow}
 use Rattle.definition.specs.Table.{Member}
 use Rattle.definition.specs.Layout.{located}
 use Rattle.definition.specs.Layout as layout
 use Rattle.layout_arithmetic.specs.declared.Laid.{Laid}
-use Rattle.layout_arithmetic.specs.declared.Exact.{Exact}
-use Rattle.layout_arithmetic.specs.declared.Exact.TheVariants as exacts
 use Rattle.layout_arithmetic.specs.declared.Placed.{Placed}
-use Rattle.layout_arithmetic.specs.declared.Placed.TheVariants as places
-use Rattle.layout_arithmetic.specs.declared.Sized.{Sized}
-use Rattle.layout_arithmetic.specs.declared.Sized.TheVariants as sizes
+use Rattle.layout_arithmetic.specs.declared.SizeError.{SizeError}
+use Rattle.layout_arithmetic.specs.declared.SizeError.TheVariants.{TooLarge, Overflow}
 
 -- what has been laid out; an alignment of 0 counts 1
 abbrev pub laid_of : Laid → layout.Laid
@@ -22,17 +19,17 @@ abbrev pub none_laid : Laid
 none_laid = record { taken = 0; align = 1; widest = 0 }
 
 -- a number, or the refusal of one that passes 2^64 - 1
-unfoldable pub exact : Exact → ℕ → Answer ℕ
-exact (exacts.Number n) at = got n
-exact exacts.Overflow at = refused layout_overflow at
+unfoldable pub exact : Option ℕ → ℕ → Answer ℕ
+exact (Some n) at = got n
+exact None at = refused layout_overflow at
 
 -- a member at its place, and what has been laid out with it; a refusal names the place that the member carries
-unfoldable pub placed : Placed → Member → Answer (Member × layout.Laid)
-placed (places.At offset first l) e = got (located e offset first, laid_of l)
-placed places.Overflow e = refused layout_overflow e.offset
+unfoldable pub placed : Option Placed → Member → Answer (Member × layout.Laid)
+placed (Some p) e = got (located e p.offset p.bit, laid_of p.laid)
+placed None e = refused layout_overflow e.offset
 
 -- the size of a record whose tag stands at a place
-unfoldable pub sized : Sized → ℕ → Answer ℕ
-sized (sizes.Bytes n) at = got n
-sized sizes.TooLarge at = refused record_too_large at
-sized sizes.Overflow at = refused layout_overflow at
+unfoldable pub sized : Result ℕ SizeError → ℕ → Answer ℕ
+sized (Ok n) at = got n
+sized (Err TooLarge) at = refused record_too_large at
+sized (Err Overflow) at = refused layout_overflow at

@@ -22,22 +22,17 @@ pub struct Laid {
     pub widest: u64,
 }
 
+// A member's byte offset and first bit, and what has been laid out with it.
 #[derive(Clone, Copy)]
-pub enum Exact {
-    Number(u64),
-    Overflow,
+pub struct Placed {
+    pub offset: u64,
+    pub bit: u64,
+    pub laid: Laid,
 }
 
-// Byte offset, first bit, and what has been laid out with the member.
-#[derive(Clone, Copy)]
-pub enum Placed {
-    At(u64, u64, Laid),
-    Overflow,
-}
-
-#[derive(Clone, Copy)]
-pub enum Sized {
-    Bytes(u64),
+// Why a record has no size: it has 2^32 bytes or more, or a number passes 2^64 - 1.
+#[derive(Clone, Copy, PartialEq, Eq)]
+pub enum SizeError {
     TooLarge,
     Overflow,
 }
@@ -53,57 +48,29 @@ pub fn empty() -> Laid
     }
 }
 
-pub fn larger(a: u64, b: u64) -> u64
-    ensures { result ≡ max a b }
-{
-    if a < b {
-        return b;
-    }
-    a
-}
-
 // The least multiple of k that is at least v; 0 counts 1.
-pub fn round_up(v: u64, k: u64) -> Exact
+pub fn round_up(v: u64, k: u64) -> Option<u64>
     ensures { (at : ℕ) → exact result at ≡ within at (round_up v (max k 1)) }
 {
-    let step = larger(k, 1);
-    let past = v % step;
-    if past == 0 {
-        return Exact::Number(v);
-    }
-    let more = step - past;
-    if u64::MAX - v < more {
-        return Exact::Overflow;
-    }
-    Exact::Number(v + more)
+    v.checked_next_multiple_of(k.max(1))
 }
 
 // Bits in whole bytes.
 pub fn bytes_of(bits: u64) -> u64
     ensures { result ≡ round_up bits 8 / 8 }
 {
-    let whole = bits / BYTE;
-    if bits % BYTE == 0 {
-        return whole;
-    }
-    whole + 1
+    bits.div_ceil(BYTE)
 }
 
 // The bits up to the end of `size` bytes that begin at byte `place`.
-pub fn end_of(place: u64, size: u64) -> Exact
+pub fn end_of(place: u64, size: u64) -> Option<u64>
     ensures { (at : ℕ) → exact result at ≡ within at (8 * (place + size)) }
 {
-    if ALL_BYTES <= place {
-        return Exact::Overflow;
-    }
-    if ALL_BYTES - place <= size {
-        return Exact::Overflow;
-    }
-    Exact::Number(BYTE * (place + size))
+    place.checked_add(size)?.checked_mul(BYTE)
 }
 
 // The byte where something of this alignment may begin, after some bits.
-pub fn next_place(bits: u64, align: u64) -> Exact
+pub fn next_place(bits: u64, align: u64) -> Option<u64>
     ensures { (at : ℕ) → exact result at ≡ within at (round_up bits (8 * max align 1) / 8) }
 {
     round_up(bytes_of(bits), align)
@@ -115,143 +82,121 @@ pub fn advanced(l: Laid, end: u64, align: u64) -> Laid
 {
     Laid {
         taken: end,
-        align: larger(l.align, align),
-        widest: l.widest,
+        align: l.align.max(align),
+        ..l
     }
 }
 
 // "a plain member goes to the next multiple of its alignment"
-pub fn plain_member(l: Laid, size: u64, align: u64) -> Placed
+pub fn plain_member(l: Laid, size: u64, align: u64) -> Option<Placed>
     ensures { (e : Member) → placed result e ≡ plain_member e size (max align 1) (laid_of l) }
 {
-    let n = next_place(l.taken, align);
-    let Exact::Number(place) = n else {
-        return Placed::Overflow;
-    };
-    let m = end_of(place, size);
-    let Exact::Number(end) = m else {
-        return Placed::Overflow;
-    };
-    Placed::At(place, 0, advanced(l, end, align))
+    let offset = next_place(l.taken, align)?;
+    let end = end_of(offset, size)?;
+    Some(Placed {
+        offset,
+        bit: 0,
+        laid: advanced(l, end, align),
+    })
 }
 
 // "Width 0 rounds up, makes no field, and its alignment counts in the size."
-pub fn zero_field(l: Laid, align: u64) -> Placed
+pub fn zero_field(l: Laid, align: u64) -> Option<Placed>
     ensures { (e : Member) → placed result e ≡ zero_field e (max align 1) (laid_of l) }
 {
-    let n = next_place(l.taken, align);
-    let Exact::Number(place) = n else {
-        return Placed::Overflow;
-    };
-    let m = end_of(place, 0);
-    let Exact::Number(end) = m else {
-        return Placed::Overflow;
-    };
-    Placed::At(place, end, advanced(l, end, align))
+    let offset = next_place(l.taken, align)?;
+    let bit = end_of(offset, 0)?;
+    Some(Placed {
+        offset,
+        bit,
+        laid: advanced(l, bit, align),
+    })
 }
 
 // The byte where the unit begins that holds a bit.
 pub fn unit_at(bit: u64, size: u64) -> u64
     ensures { result ≡ bit / (8 * max size 1) * (8 * max size 1) / 8 }
 {
-    let unit = larger(size, 1);
+    let unit = size.max(1);
     bit / BYTE / unit * unit
 }
 
 // A bit-field that begins at bit `first`, and at byte `offset`: "its byte offset is that of the unit holding the first bit".
-pub fn field_at(l: Laid, width: u64, align: u64, first: u64, offset: u64) -> Placed
+pub fn field_at(l: Laid, width: u64, align: u64, first: u64, offset: u64) -> Option<Placed>
     ensures { (e : Member) (unit : ℕ) → offset ≡ first / unit * unit / 8 → placed result e ≡ field_at e width unit (max align 1) (laid_of l) first }
 {
-    if u64::MAX - first < width {
-        return Placed::Overflow;
-    }
-    Placed::At(offset, first, advanced(l, first + width, align))
+    let end = first.checked_add(width)?;
+    Some(Placed {
+        offset,
+        bit: first,
+        laid: advanced(l, end, align),
+    })
 }
 
 // "A bit-field that would pass its unit (type size, at least 1 byte) moves to its alignment"
-pub fn bit_field(l: Laid, width: u64, size: u64, align: u64) -> Placed
+pub fn bit_field(l: Laid, width: u64, size: u64, align: u64) -> Option<Placed>
     ensures { (e : Member) → placed result e ≡ bit_field e width (8 * max size 1) (max align 1) (laid_of l) }
 {
     let taken = l.taken;
     let unit = unit_at(taken, size);
-    let u = end_of(unit, larger(size, 1));
-    let Exact::Number(unit_end) = u else {
-        return Placed::Overflow;
-    };
+    let unit_end = end_of(unit, size.max(1))?;
     if width <= unit_end - taken {
         return field_at(l, width, align, taken, unit);
     }
-    let n = next_place(taken, align);
-    let Exact::Number(place) = n else {
-        return Placed::Overflow;
-    };
-    let m = end_of(place, 0);
-    let Exact::Number(first) = m else {
-        return Placed::Overflow;
-    };
+    let place = next_place(taken, align)?;
+    let first = end_of(place, 0)?;
     field_at(l, width, align, first, unit_at(first, size))
 }
 
 // A member of a struct. Its width is as the table holds it: 0 for a plain member, else 1 more than the bit-field's width.
-pub fn in_struct(l: Laid, width: u32, size: u64, align: u64) -> Placed
+pub fn in_struct(l: Laid, width: u32, size: u64, align: u64) -> Option<Placed>
     ensures { (e : Member) → width ≡ width_number e.width → placed result e ≡ in_struct e.width e size (max align 1) (laid_of l) }
 {
-    if width == 0 {
-        return plain_member(l, size, align);
+    match width {
+        0 => plain_member(l, size, align),
+        1 => zero_field(l, align),
+        _ => bit_field(l, u64::from(width - 1), size, align),
     }
-    if width == 1 {
-        return zero_field(l, align);
-    }
-    bit_field(l, (width - 1) as u64, size, align)
 }
 
 // A member of a union begins at 0; one of width 0 makes no field.
 pub fn in_union(l: Laid, width: u32, size: u64, align: u64) -> Laid
     ensures { (e : Member) → width ≡ width_number e.width → (located e 0 0, laid_of result) ≡ in_union e size (max align 1) (laid_of l) }
 {
-    let largest = larger(l.align, align);
-    if width == 1 {
-        return Laid {
-            taken: l.taken,
-            align: largest,
-            widest: l.widest,
-        };
-    }
+    let widest = if width == 1 {
+        l.widest
+    } else {
+        l.widest.max(size)
+    };
     Laid {
-        taken: l.taken,
-        align: largest,
-        widest: larger(l.widest, size),
+        align: l.align.max(align),
+        widest,
+        ..l
     }
 }
 
 // The bytes that the members take.
-pub fn bytes_taken(l: Laid, union: bool) -> Exact
+pub fn bytes_taken(l: Laid, union: bool) -> Option<u64>
     ensures { (m : Model) (t : Table) (at : ℕ) → exact result at ≡ bytes_taken m t union at (laid_of l) }
 {
     if union {
-        return Exact::Number(l.widest);
+        return Some(l.widest);
     }
     let bytes = bytes_of(l.taken);
     if ALL_BYTES <= bytes {
-        return Exact::Overflow;
+        return None;
     }
-    Exact::Number(bytes)
+    Some(bytes)
 }
 
 // "Struct and union end at a multiple of the largest alignment."
-pub fn record_size(l: Laid, union: bool) -> Sized
+pub fn record_size(l: Laid, union: bool) -> Result<u64, SizeError>
     ensures { (m : Model) (t : Table) (at : ℕ) → sized result at ≡ record_size m t union at (laid_of l) }
 {
-    let b = bytes_taken(l, union);
-    let Exact::Number(bytes) = b else {
-        return Sized::Overflow;
-    };
-    let s = round_up(bytes, l.align);
-    let Exact::Number(size) = s else {
-        return Sized::Overflow;
-    };
+    let bytes = bytes_taken(l, union).ok_or(SizeError::Overflow)?;
+    let size = round_up(bytes, l.align).ok_or(SizeError::Overflow)?;
     if SIZE_LIMIT <= size {
-        return Sized::TooLarge;
+        return Err(SizeError::TooLarge);
     }
-    Sized::Bytes(size)
+    Ok(size)
 }

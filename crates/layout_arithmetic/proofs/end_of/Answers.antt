@@ -1,17 +1,15 @@
 use native.Mathlib.Omega.{arith}
-use Prim.Native.Nat.{◌+◌, ◌^◌}
+use mathlib.Core.Path.{refl}
+use Rattle.std.specs.Prelude.{None}
+use Prim.Native.Nat.{◌^◌, ◌+◌, ◌*◌}
 use Rattle.definition.specs.Layout.{within}
-use Rattle.layout_arithmetic.proofs.Told.{all_fit, all_pass}
+use Rattle.layout_arithmetic.proofs.Told.{checked}
 use Rattle.layout_arithmetic.proofs.end_of.Goals as goal
 
-pub returns-then-place-ge-ALL_BYTES : goal.returns-then-place-ge-ALL_BYTES
+pub returns-in_err-checked_add : goal.returns-in_err-checked_add
 unfolding within
-returns-then-place-ge-ALL_BYTES c = all_pass (2 ^ 61) 8 (c.args.place + c.args.size) (omega arith)
-
-pub returns-then-place-size : goal.returns-then-place-size
-unfolding within
-returns-then-place-size c = all_pass (2 ^ 61) 8 (c.args.place + c.args.size) (omega arith)
+returns-in_err-checked_add c = let n = c.in_err-checked_add.ensures in rw c.from_residual.ensures (checked (2 ^ 64) {x = 8 * (c.args.place + c.args.size)} None refl (λ p. n (omega arith)))
 
 pub returns : goal.returns
 unfolding within
-returns c = all_fit (2 ^ 61) 8 _ (omega arith) (omega arith)
+returns c = checked (2 ^ 64) _ (omega (arith, c.in_ok-checked_add.ensures)) c.checked_mul.ensures

@@ -1,11 +1,11 @@
 use native.Mathlib.Omega.{arith}
-use Prim.Native.Nat.{max}
+use mathlib.Core.Path.{sym}
 use Rattle.layout_arithmetic.specs.Outcome.{laid_of}
 use Rattle.layout_arithmetic.proofs.Members.{field-at, field_out}
 use Rattle.layout_arithmetic.proofs.field_at.Goals as goal
 
-pub returns-then-first-width : goal.returns-then-first-width
-returns-then-first-width c = λ e unit x. field_out e (max c.args.align 1) (omega arith) (laid_of c.args.l) c.args.width unit c.args.first (omega arith)
+pub returns-in_err-end : goal.returns-in_err-end
+returns-in_err-end c = λ e unit x. let n = c.in_err-end.ensures in rw c.from_residual.ensures (field_out e c.args.align (laid_of c.args.l) c.args.width unit c.args.first (omega arith))
 
 pub returns : goal.returns
-returns c = λ e unit x. field-at e (max c.args.align 1) (omega arith) (laid_of c.args.l) c.args.width unit c.args.first _ _ x (omega arith) c.advanced.ensures
+returns c = λ e unit x. let p = c.in_ok-end.ensures in field-at e c.args.align (laid_of c.args.l) c.args.width unit c.args.first _ _ x (omega arith) (rw (sym p.1) c.advanced.ensures)

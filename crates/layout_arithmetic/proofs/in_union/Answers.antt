@@ -4,9 +4,10 @@ use Prim.Native.Nat.{max}
 use Rattle.layout_arithmetic.specs.Outcome.{laid_of}
 use Rattle.layout_arithmetic.proofs.Members.{union-is, union-zero, union-wide}
 use Rattle.layout_arithmetic.proofs.in_union.Goals as goal
-
-pub returns-then-width-eq1 : goal.returns-then-width-eq1
-returns-then-width-eq1 c = λ e q. union-is e c.args.size (max c.args.align 1) (laid_of c.args.l) _ refl (omega (arith, c.larger-largest.ensures)) (sym (union-zero e c.args.size (max c.args.align 1) (laid_of c.args.l) e.width (sym c.if-width-eq1.true ∙ q)))
+use Rattle.layout_arithmetic.proofs.in_union.Goals.{then-width-eq1, else-width-eq1}
 
 pub returns : goal.returns
-returns c = λ e q. union-is e c.args.size (max c.args.align 1) (laid_of c.args.l) _ refl (omega (arith, c.larger-largest.ensures)) (c.larger.ensures ∙ sym (union-wide e c.args.size (max c.args.align 1) (laid_of c.args.l) e.width _ q c.if-width-eq1.false))
+returns c = λ e q. union-is e c.args.size (max c.args.align 1) (laid_of c.args.l) _ refl (omega (arith, c.max.ensures)) (elim c.if-width-eq1.branch [
+  | then-width-eq1 w ↦ w.widest-is ∙ sym (union-zero e c.args.size (max c.args.align 1) (laid_of c.args.l) e.width (sym w.if-width-eq1.true ∙ q))
+  | else-width-eq1 w ↦ w.widest-is ∙ w.max-widest.ensures ∙ sym (union-wide e c.args.size (max c.args.align 1) (laid_of c.args.l) e.width _ q w.if-width-eq1.false)
+])

@@ -1,15 +1,14 @@
 use native.Mathlib.Omega.{arith}
-use Prim.Native.Nat.{max}
 use Rattle.layout_arithmetic.specs.Outcome.{laid_of}
 use Rattle.layout_arithmetic.proofs.Told.{is_number, is-small, is-over}
 use Rattle.layout_arithmetic.proofs.Members.{plain_at, plain_out}
 use Rattle.layout_arithmetic.proofs.plain_member.Goals as goal
 
-pub returns-in_default : goal.returns-in_default
-returns-in_default c = λ e. plain_out e (max c.args.align 1) (omega arith) (laid_of c.args.l) c.args.size (omega (arith, is-over c.next_place-n.ensures c.in_default.is))
+pub returns-in_err-offset : goal.returns-in_err-offset
+returns-in_err-offset c = λ e. rw c.from_residual.ensures (plain_out e c.args.align (laid_of c.args.l) c.args.size (omega (arith, is-over c.next_place.ensures c.in_err-offset.was)))
 
-pub returns-in_default-m : goal.returns-in_default-m
-returns-in_default-m c = λ e. plain_out e (max c.args.align 1) (omega arith) (laid_of c.args.l) c.args.size (omega (arith, is_number c.next_place-n.ensures c.in-Number.is, is-over c.end_of-m.ensures c.in_default-m.is))
+pub returns-in_err-end : goal.returns-in_err-end
+returns-in_err-end c = λ e. rw c.from_residual-in_err-end.ensures (plain_out e c.args.align (laid_of c.args.l) c.args.size (omega (arith, is_number c.next_place.ensures c.in_ok-offset.was, is-over c.end_of.ensures c.in_err-end.was)))
 
 pub returns : goal.returns
-returns c = λ e. plain_at e (max c.args.align 1) (omega arith) (laid_of c.args.l) _ _ _ _ (is_number c.next_place-n.ensures c.in-Number.is) (is_number c.end_of-m.ensures c.in-Number-m.is) (omega (arith, is_number c.end_of-m.ensures c.in-Number-m.is, is-small c.end_of-m.ensures c.in-Number-m.is)) c.advanced.ensures
+returns c = λ e. plain_at e c.args.align (laid_of c.args.l) _ _ _ _ (is_number c.next_place.ensures c.in_ok-offset.was) (is_number c.end_of.ensures c.in_ok-end.was) (omega (arith, is_number c.end_of.ensures c.in_ok-end.was, is-small c.end_of.ensures c.in_ok-end.was)) c.advanced.ensures
