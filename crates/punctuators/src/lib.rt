@@ -11,25 +11,6 @@ ghost use Rattle.punctuators.specs.Found.{mark, kind_or_none, longer};
 use encoding::{ascii, token_kinds};
 use scan::{byte_at, from};
 
-// The marks of two bytes, the first one times 256.
-const PAIR: u32 = 256;
-
-const SHIFT_LEFT_BYTES: u32 = PAIR * ascii::LESS + ascii::LESS;
-
-const SHIFT_RIGHT_BYTES: u32 = PAIR * ascii::GREATER + ascii::GREATER;
-
-const LESS_EQUAL_BYTES: u32 = PAIR * ascii::LESS + ascii::EQUALS;
-
-const GREATER_EQUAL_BYTES: u32 = PAIR * ascii::GREATER + ascii::EQUALS;
-
-const EQUAL_EQUAL_BYTES: u32 = PAIR * ascii::EQUALS + ascii::EQUALS;
-
-const NOT_EQUAL_BYTES: u32 = PAIR * ascii::BANG + ascii::EQUALS;
-
-const AND_AND_BYTES: u32 = PAIR * ascii::AMPERSAND + ascii::AMPERSAND;
-
-const OR_OR_BYTES: u32 = PAIR * ascii::BAR + ascii::BAR;
-
 // A mark: its kind, and how many bytes it takes.
 #[derive(Clone, Copy)]
 pub struct Found {
@@ -51,15 +32,15 @@ pub fn two_bytes(a: u32, b: u32) -> Option<u32>
     requires { (a ≤ 256) × (b ≤ 256) }
     ensures { result ≡ kind_or_none (mark_among two_byte_marks (pair a b)) }
 {
-    match PAIR * a + b {
-        SHIFT_LEFT_BYTES => Some(token_kinds::SHIFT_LEFT),
-        SHIFT_RIGHT_BYTES => Some(token_kinds::SHIFT_RIGHT),
-        LESS_EQUAL_BYTES => Some(token_kinds::LESS_EQUAL),
-        GREATER_EQUAL_BYTES => Some(token_kinds::GREATER_EQUAL),
-        EQUAL_EQUAL_BYTES => Some(token_kinds::EQUAL_EQUAL),
-        NOT_EQUAL_BYTES => Some(token_kinds::NOT_EQUAL),
-        AND_AND_BYTES => Some(token_kinds::AND_AND),
-        OR_OR_BYTES => Some(token_kinds::OR_OR),
+    match (a, b) {
+        (ascii::LESS, ascii::LESS) => Some(token_kinds::SHIFT_LEFT),
+        (ascii::GREATER, ascii::GREATER) => Some(token_kinds::SHIFT_RIGHT),
+        (ascii::LESS, ascii::EQUALS) => Some(token_kinds::LESS_EQUAL),
+        (ascii::GREATER, ascii::EQUALS) => Some(token_kinds::GREATER_EQUAL),
+        (ascii::EQUALS, ascii::EQUALS) => Some(token_kinds::EQUAL_EQUAL),
+        (ascii::BANG, ascii::EQUALS) => Some(token_kinds::NOT_EQUAL),
+        (ascii::AMPERSAND, ascii::AMPERSAND) => Some(token_kinds::AND_AND),
+        (ascii::BAR, ascii::BAR) => Some(token_kinds::OR_OR),
         _ => None,
     }
 }
