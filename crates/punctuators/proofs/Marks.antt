@@ -1,21 +1,22 @@
 -- Laws of marks. Assumes nothing.
-use mathlib.Core.Path.{◌≡◌, refl, sym, ◌∙◌}
+use mathlib.Core.Path.{◌≡◌, refl, ◌∙◌}
 use mathlib.Core.Bool.{Bool, true, false, ◌&&◌}
-use mathlib.Core.List.{List, [], ◌∷◌}
+use mathlib.Core.List.{[], ◌∷◌}
 use Prim.Native.Nat.{ℕ, zero, suc, ◌+◌, ◌*◌, ◌≤◌, ◌<◌}
 use native.Mathlib.Omega.{arith}
-use borrow.Author.Tests.{ltb-true, ltb-false, eqb-false, leb-false, le-leb, ne_eqb}
-use lib.Dec.{eqb, leb, ltb}
+use borrow.Author.Tests.{eqb-true, eqb-false, leb-false, le-leb, ne_eqb}
+use lib.Dec.{eqb, leb}
 use lib.ListN.{get_or}
 use lib.Seq.{get_or-drop}
 use Rattle.definition.specs.Text.{Bytes, byte_at}
 use Rattle.definition.specs.Scan.{from}
-use Rattle.definition.specs.Mark.{Written, pair, two_byte_marks, one_byte_marks, mark_among, short_mark, mark_of, mark_at}
+use Rattle.definition.specs.Mark.{pair, two_byte_marks, one_byte_marks, mark_among, short_mark, mark_of, mark_at}
 use Rattle.definition_laws.proofs.LexerProgress.{first-from}
-use Rattle.punctuators.specs.Found.{longer}
+use Rattle.std.specs.Prelude.{Option, Some, None, MatchOption}
+use Rattle.punctuators.specs.declared.Found.{Found}
+use Rattle.punctuators.specs.Found.{mark, kind_or_none, longer}
 use Rattle.lemmas.proofs.Branch.{yes, nay, eq_yes, eq_no}
 use Rattle.lemmas.proofs.Truth.{not_first, neither-first, neither-second}
-use Rattle.scan.proofs.Table.{Apart, default}
 use Rattle.scan.proofs.Going.{second_from}
 
 pub byte_bound : (l : Bytes) → ((k : ℕ) → get_or l k 0 < 256) → (i : ℕ) → byte_at l i ≤ 256
@@ -23,48 +24,7 @@ byte_bound [] h i = omega arith
 byte_bound (x ∷ l) h zero = let k = h zero in omega arith
 byte_bound (x ∷ l) h (suc i) = byte_bound l (λ k. h (suc k)) i
 
-below : List Written → Bool
-below [] = true
-below (m ∷ ms) = elim (ltb m.written 128) [ true ↦ below ms | false ↦ false ]
-
-first_below : (m : Written) (ms : List Written) → below (m ∷ ms) ≡ true → (m.written < 128) × (below ms ≡ true)
-unfolding below
-first_below m ms = elim (ltb m.written 128) as (λ t. ltb m.written 128 ≡ t → elim t as (λ z. Bool) [ true ↦ below ms | false ↦ false ] ≡ true → (m.written < 128) × (below ms ≡ true)) [
-  | true ↦ λ p e. (ltb-true m.written 128 p, e)
-  | false ↦ λ p e. (let z : ◌≡◌ {A = Bool} false true = e in let y : ◌≡◌ {A = ℕ} 0 1 = cc in absurd (omega arith))
-] refl
-
-none_of : (b : ℕ) (ms : List Written) → 128 ≤ b → below ms ≡ true → mark_among ms b ≡ 0
-unfolding mark_among
-none_of b [] h e = refl
-none_of b (m ∷ ms) h e = let f = first_below m ms e in eq_no b m.written _ _ (λ (q : b ≡ m.written). omega (arith, f.0, q)) ∙ none_of b ms h f.1
-
-pub past-marks : (b : ℕ) → 128 ≤ b → mark_among one_byte_marks b ≡ 0
-unfolding one_byte_marks below
-past-marks b h = none_of b one_byte_marks h refl
-
--- a byte of no arm of the code's matches, the last arm first
-module _ (a : ℕ) where
-  pub low-rest : a < 64 → Apart a (63 ∷ 62 ∷ 61 ∷ 60 ∷ 59 ∷ 58 ∷ 47 ∷ 46 ∷ 45 ∷ 44 ∷ 43 ∷ 42 ∷ 41 ∷ 40 ∷ 38 ∷ 37 ∷ 33 ∷ []) → mark_among one_byte_marks a ≡ 0
-  unfolding mark_among one_byte_marks
-  low-rest h r = default (63 ∷ 62 ∷ 61 ∷ 60 ∷ 59 ∷ 58 ∷ 47 ∷ 46 ∷ 45 ∷ 44 ∷ 43 ∷ 42 ∷ 41 ∷ 40 ∷ 38 ∷ 37 ∷ 33 ∷ []) (mark_among one_byte_marks) 0 0 64 tt a (omega arith) h r
-
-  pub middle_rest : 64 ≤ a → a < 96 → Apart a (94 ∷ 93 ∷ 91 ∷ []) → mark_among one_byte_marks a ≡ 0
-  unfolding mark_among one_byte_marks
-  middle_rest l h r = default (94 ∷ 93 ∷ 91 ∷ []) (mark_among one_byte_marks) 0 64 32 tt a l h r
-
-  high_rest_below : 96 ≤ a → a < 128 → Apart a (126 ∷ 125 ∷ 124 ∷ 123 ∷ []) → mark_among one_byte_marks a ≡ 0
-  unfolding mark_among one_byte_marks
-  high_rest_below l h r = default (126 ∷ 125 ∷ 124 ∷ 123 ∷ []) (mark_among one_byte_marks) 0 96 32 tt a l h r
-
-  pub high_rest : 96 ≤ a → Apart a (126 ∷ 125 ∷ 124 ∷ 123 ∷ []) → mark_among one_byte_marks a ≡ 0
-  high_rest l r = by (ltb a 128) refl
-    where
-      by : (t : Bool) → ltb a 128 ≡ t → mark_among one_byte_marks a ≡ 0
-      by true q = high_rest_below l (ltb-true a 128 q) r
-      by false q = past-marks a (ltb-false a 128 q)
-
-pub no_pair : (p : ℕ) → (p ≡ 15420 → ⊥) → (p ≡ 15934 → ⊥) → (p ≡ 15421 → ⊥) → (p ≡ 15933 → ⊥) → (p ≡ 15677 → ⊥) → (p ≡ 8509 → ⊥) → (p ≡ 9766 → ⊥) → (p ≡ 31868 → ⊥)
+no_pair : (p : ℕ) → (p ≡ 15420 → ⊥) → (p ≡ 15934 → ⊥) → (p ≡ 15421 → ⊥) → (p ≡ 15933 → ⊥) → (p ≡ 15677 → ⊥) → (p ≡ 8509 → ⊥) → (p ≡ 9766 → ⊥) → (p ≡ 31868 → ⊥)
     → mark_among two_byte_marks p ≡ 0
 unfolding mark_among two_byte_marks
 no_pair p a b c d e f g h =
@@ -83,7 +43,6 @@ record Alone (a : ℕ) : Type 0 where
   bar : a ≡ 124 → ⊥
 
 alone : (a : ℕ) → longer a ≡ false → Alone a
-unfolding longer
 alone a e =
     let f = neither-second (eqb a 33) _ e in
     let g = neither-second (eqb a 38) _ f in
@@ -110,6 +69,25 @@ alone-pair a b h r =
     less : (x y : ℕ) → 60 ≤ x → x ≤ 62 → 0 < y → y < 256 → pair a b ≡ 256 * x + y → ⊥
     less x y l m p q e = apart a b x y h p q (λ z. let k = r.between (omega (arith, z)) in omega (arith, k, z)) e
 
+-- what a kind that was found, or none, says of the definition's kind
+kind-some : (n k : ℕ) → Some k ≡ kind_or_none n → (n ≡ k) × (n ≡ 0 → ⊥)
+kind-some n k = by (eqb n 0) refl
+  where
+    by : (t : Bool) → eqb n 0 ≡ t → Some k ≡ elim t as (λ z. Option ℕ) [ true ↦ None | false ↦ Some n ] → (n ≡ k) × (n ≡ 0 → ⊥)
+    by true q e = cc
+    by false q e = (cc, eqb-false n 0 q)
+
+kind-none : (n : ℕ) → None ≡ kind_or_none n → n ≡ 0
+kind-none n = by (eqb n 0) refl
+  where
+    by : (t : Bool) → eqb n 0 ≡ t → None ≡ elim t as (λ z. Option ℕ) [ true ↦ None | false ↦ Some n ] → n ≡ 0
+    by true q e = eqb-true n 0 q
+    by false q e = cc
+
+pub one-short : (n : ℕ) (o : Option ℕ) (r : Option Found) → o ≡ kind_or_none n → MatchOption o (r ≡ None) (λ k. r ≡ Some (record { kind = k; size = 1 })) → mark r ≡ record { kind = n; size = 1 }
+one-short n None r e f = rw (f, kind-none n e)
+one-short n (Some k) r e f = rw (f, (kind-some n k e).0)
+
 module _ (text : Bytes) (at : ℕ) where
   mark-is : mark_at (from text at) ≡ mark_of (byte_at text at) (byte_at text (at + 1)) (byte_at text (at + 2))
   unfolding mark_at
@@ -119,18 +97,16 @@ module _ (text : Bytes) (at : ℕ) where
   unfolding mark_of
   mark-three e = mark-is ∙ yes _ _ _ e
 
-  pub mark-alone : (k : ℕ) → longer (byte_at text at) ≡ false → byte_at text (at + 1) ≤ 256 → k ≡ mark_among one_byte_marks (byte_at text at) → mark_at (from text at) ≡ record { kind = k; size = 1 }
+  pub mark-alone : longer (byte_at text at) ≡ false → byte_at text (at + 1) ≤ 256 → mark_at (from text at) ≡ record { kind = mark_among one_byte_marks (byte_at text at); size = 1 }
   unfolding mark_of short_mark
-  mark-alone k e h f =
-      let r = alone (byte_at text at) e in mark-is ∙ (nay _ _ _ (not_first _ (ne_eqb _ _ r.dot)) ∙ (eq_yes _ _ _ _ (alone-pair _ _ h r) ∙ rw f))
+  mark-alone e h =
+      let r = alone (byte_at text at) e in mark-is ∙ (nay _ _ _ (not_first _ (ne_eqb _ _ r.dot)) ∙ eq_yes _ _ _ _ (alone-pair _ _ h r))
 
   module _ (e : (eqb (byte_at text at) 46 && (eqb (byte_at text (at + 1)) 46 && eqb (byte_at text (at + 2)) 46)) ≡ false) where
-    pub mark-one : (k two : ℕ) → two ≡ mark_among two_byte_marks (pair (byte_at text at) (byte_at text (at + 1))) → two ≡ 0 → k ≡ mark_among one_byte_marks (byte_at text at)
-        → mark_at (from text at) ≡ record { kind = k; size = 1 }
+    pub mark-one : None ≡ kind_or_none (mark_among two_byte_marks (pair (byte_at text at) (byte_at text (at + 1)))) → mark_at (from text at) ≡ record { kind = mark_among one_byte_marks (byte_at text at); size = 1 }
     unfolding mark_of short_mark
-    mark-one k two q z f = mark-is ∙ (nay _ _ _ e ∙ (eq_yes _ _ _ _ (sym q ∙ z) ∙ rw f))
+    mark-one q = mark-is ∙ (nay _ _ _ e ∙ eq_yes _ _ _ _ (kind-none _ q))
 
-    pub mark-two : (two : ℕ) → two ≡ mark_among two_byte_marks (pair (byte_at text at) (byte_at text (at + 1))) → (two ≡ 0 → ⊥)
-        → mark_at (from text at) ≡ record { kind = two; size = 2 }
+    pub mark-two : (k : ℕ) → Some k ≡ kind_or_none (mark_among two_byte_marks (pair (byte_at text at) (byte_at text (at + 1)))) → mark_at (from text at) ≡ record { kind = k; size = 2 }
     unfolding mark_of
-    mark-two two q z = mark-is ∙ (nay _ _ _ e ∙ (eq_no _ _ _ _ (λ y. z (q ∙ y)) ∙ rw q))
+    mark-two k q = let z = kind-some _ k q in mark-is ∙ (nay _ _ _ e ∙ (eq_no _ _ _ _ z.1 ∙ rw z.0))

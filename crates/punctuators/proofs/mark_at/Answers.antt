@@ -1,20 +1,27 @@
 use mathlib.Core.Path.{sym, ◌∙◌}
 use native.Mathlib.Omega.{arith}
-use borrow.Author.Tests.{not-true}
-use Rattle.punctuators.proofs.Marks.{byte_bound, mark-three, mark-one, mark-two, mark-alone}
+use Rattle.std.proofs.Common.{rules, ◌≡◌}
+use Rattle.definition.specs.Text.{byte_at}
+use Rattle.definition.specs.Scan.{from}
+use Rattle.definition.specs.Mark.{one_byte_marks, mark_among, mark_at}
+use Rattle.punctuators.proofs.Marks.{byte_bound, mark-three, mark-one, mark-two, mark-alone, one-short}
 use Rattle.punctuators.proofs.mark_at.Goals as goal
+use Rattle.punctuators.proofs.mark_at.Goals.{then-is_longer+else-is_ellipsis+in_default, else-is_longer}
 
-pub returns-then-not-is_longer : goal.returns-then-not-is_longer
-returns-then-not-is_longer c = sym (mark-alone c.args.text.now _ _ (rw c.byte_at-a.ensures at (sym c.is_longer.ensures ∙ not-true _ c.if-not-is_longer.true-raw)) (byte_bound c.args.text.now (λ k. omega (arith, c.shared_slice_known-1.given k)) _) (rw c.byte_at-a.ensures at c.one_byte.ensures))
+pub returns-then-is_ellipsis-clause-same : goal.returns-then-is_ellipsis-clause-same
+returns-then-is_ellipsis-clause-same c = sym (mark-three c.args.text.now c.args.at (sym c.if-is_ellipsis.ensures))
 
-pub returns-then-is_ellipsis : goal.returns-then-is_ellipsis
-returns-then-is_ellipsis c = sym (mark-three c.args.text.now _ (sym c.is_ellipsis.ensures ∙ c.if-is_ellipsis.true))
+pub two_bytes-requires : goal.two_bytes-requires
+two_bytes-requires c = (rw c.byte_at-a.ensures (byte_bound c.args.text.now (λ k. omega (arith, c.type_inv.text k)) _), rw c.byte_at.ensures (byte_bound c.args.text.now (λ k. omega (arith, c.type_inv.text k)) _))
 
-pub two_bytes-two-requires : goal.two_bytes-two-requires
-two_bytes-two-requires c = (rw c.byte_at-a.ensures (byte_bound c.args.text.now (λ k. omega (arith, c.shared_slice_known-1.given k)) _), rw c.byte_at.ensures (byte_bound c.args.text.now (λ k. omega (arith, c.shared_slice_known-1.given k)) _))
+pub returns-in-Some-clause-same : goal.returns-in-Some-clause-same
+returns-in-Some-clause-same c = sym (mark-two c.args.text.now _ (sym c.if-is_ellipsis.ensures) _ (rw (c.byte_at-a.ensures, c.byte_at.ensures) at c.in-Some.ensures))
 
-pub returns-then-two-eq0 : goal.returns-then-two-eq0
-returns-then-two-eq0 c = sym (mark-one c.args.text.now _ (sym c.is_ellipsis.ensures ∙ c.if-is_ellipsis.false) _ _ (rw (c.byte_at-a.ensures, c.byte_at.ensures) at c.two_bytes-two.ensures) c.if-two-eq0.true (rw c.byte_at-a.ensures at c.one_byte-then-two-eq0.ensures))
-
-pub returns : goal.returns
-returns c = sym (mark-two c.args.text.now _ (sym c.is_ellipsis.ensures ∙ c.if-is_ellipsis.false) _ (rw (c.byte_at-a.ensures, c.byte_at.ensures) at c.two_bytes-two.ensures) c.if-two-eq0.false)
+pub returns-clause-same : goal.returns-clause-same
+returns-clause-same c =
+    let single : mark_at (from c.args.text.now c.args.at) ≡ record { kind = mark_among one_byte_marks (byte_at c.args.text.now c.args.at); size = 1 } =
+    elim c.if-is_longer.branch [
+      | then-is_longer+else-is_ellipsis+in_default w ↦ mark-one c.args.text.now _ (sym w.if-is_ellipsis.ensures) (rw (c.byte_at-a.ensures, w.byte_at.ensures) at (sym w.in_default.is ∙ w.two_bytes.ensures))
+      | else-is_longer w ↦ mark-alone c.args.text.now _ (rw c.byte_at-a.ensures at (sym w.if-is_longer.ensures)) (byte_bound c.args.text.now (λ k. omega (arith, c.type_inv.text k)) _)
+    ] in
+    one-short _ c.one_byte.result c.map.result (rw c.byte_at-a.ensures at c.one_byte.ensures) (search rules) ∙ sym single
