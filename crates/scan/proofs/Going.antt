@@ -2,18 +2,22 @@
 use mathlib.Core.Path.{◌≡◌, refl, sym, ap, ◌∙◌}
 use mathlib.Core.Bool.{Bool, true, false, ◌&&◌}
 use mathlib.Core.List.{[], ◌∷◌, ◌++◌}
-use mathlib.Mathlib.Data.Bool.Basic.{and_elim_right, or_inr}
-use Prim.Native.Nat.{ℕ, zero, suc, ◌+◌, ◌-◌, ◌≤◌, ◌<◌}
+use mathlib.Mathlib.Data.Bool.Basic.{and_elim_right}
+use Prim.Native.Nat.{ℕ, zero, suc, ◌+◌, ◌-◌, ◌≤◌, ◌<◌, min}
 use native.Mathlib.Numerals.{add-one}
 use native.Mathlib.Omega.{arith}
-use borrow.Author.Tests.{eqb-true, eq-eqb, ne_eqb, le-leb, lt-leb, leb-true, leb-false}
-use lib.Dec.{eqb, leb}
+use borrow.Author.Tests.{eqb-true, eq-eqb, ne_eqb}
+use lib.Dec.{eqb}
 use lib.ListN.{length, drop, take, get_or, drop_of_length-le, length-drop, get_or-eq_default}
 use lib.Seq.{get_or-drop, take-suc, take_all}
 use Rattle.definition.specs.Text.{Bytes, byte_at}
 use Rattle.definition.specs.Scan.{from, second, begins, before}
-use Rattle.definition.specs.Comment.{ends_comment}
 use Rattle.definition.specs.Place.{Place, after, after_all, place_of}
+use Rattle.std.specs.Prelude.{Option, Some, None, MatchOption}
+use Rattle.std.specs.List.{AllWithin, HoldsAt}
+use Rattle.std.specs.Option.{unwrap_or}
+use Rattle.std.proofs.lemmas.List.{take_min}
+use Rattle.lemmas.proofs.Branch.{yes, nay}
 use Rattle.lemmas.proofs.Lists.{drop-next}
 use Rattle.definition_laws.proofs.LexerProgress.{first-from}
 
@@ -62,25 +66,47 @@ begins-inside a b text i h e =
     let q = eqb-true (byte_at text (i + 1)) b (and_elim_right (eqb (byte_at text i) a) (eqb (byte_at text (i + 1)) b) (sym (begins-is a b text i) ∙ e)) in
     let k = there text (i + 1) b q h in omega arith
 
+-- how far, by the next byte
+module _ (stop : Bytes → Bool) (b : ℕ) (bs : Bytes) where
+  pub stopped-at : stop (b ∷ bs) ≡ true → before stop (b ∷ bs) ≡ 0
+  unfolding before
+  stopped-at e = yes _ _ _ e
+
+  pub going-at : stop (b ∷ bs) ≡ false → before stop (b ∷ bs) ≡ suc (before stop bs)
+  unfolding before
+  going-at e = nay _ _ _ e
+
+-- where a closure stops that says of each byte what a stop of the definition says
+module _ (says : ℕ → Bool → Type 0) (stop : Bytes → Bool) (agrees : (b : ℕ) (t : Bool) (bs : Bytes) → says b t → t ≡ stop (b ∷ bs)) where
+  none_stops : (bs : Bytes) → AllWithin (λ b. says b false) bs 0 (length bs) → length bs ≡ before stop bs
+  unfolding before
+  none_stops [] f = refl
+  none_stops (b ∷ bs) f = ap suc (none_stops bs (λ k d l m. f (suc k) d (omega arith) (omega arith))) ∙ sym (going-at stop b bs (sym (agrees b false bs (f 0 0 (omega arith) (omega arith)))))
+
+  first_stops : (bs : Bytes) (n : ℕ) → n < length bs → HoldsAt (λ b. says b true) bs n → AllWithin (λ b. says b false) bs 0 n → n ≡ before stop bs
+  first_stops [] n l y f = absurd (omega arith)
+  first_stops (b ∷ bs) zero l y f = sym (stopped-at stop b bs (sym (agrees b true bs (y 0))))
+  first_stops (b ∷ bs) (suc n) l y f =
+      ap suc (first_stops bs n (omega arith) (λ d. y d) (λ k d m q. f (suc k) d (omega arith) (omega arith)))
+      ∙ sym (going-at stop b bs (sym (agrees b false bs (f 0 0 (omega arith) (omega arith)))))
+
+  pub first_or_all : (bs : Bytes) (r : Option ℕ)
+      → MatchOption r (AllWithin (λ b. says b false) bs 0 (length bs)) (λ n. (n < length bs) × HoldsAt (λ b. says b true) bs n × AllWithin (λ b. says b false) bs 0 n)
+      → unwrap_or r (length bs) ≡ before stop bs
+  first_or_all bs None f = none_stops bs f
+  first_or_all bs (Some n) f = first_stops bs n f.0 f.1 f.2
+
 -- how far, at the end, where it stops, and where it goes on
 module _ (stop : Bytes → Bool) (text : Bytes) where
   pub ended : (i : ℕ) → length text ≤ i → before stop (from text i) ≡ 0
   unfolding before
   ended i h = rw (from_end text i h)
 
-  stopped-at : (b : ℕ) (bs : Bytes) → stop (b ∷ bs) ≡ true → before stop (b ∷ bs) ≡ 0
-  unfolding before
-  stopped-at b bs e = rw (e, before)
-
-  going-at : (b : ℕ) (bs : Bytes) → stop (b ∷ bs) ≡ false → before stop (b ∷ bs) ≡ suc (before stop bs)
-  unfolding before
-  going-at b bs e = rw (e, before)
-
   pub stopped : (i : ℕ) → i < length text → stop (from text i) ≡ true → before stop (from text i) ≡ 0
-  stopped i h e = ap (before stop) (from_cons text i h) ∙ stopped-at _ _ (sym (ap stop (from_cons text i h)) ∙ e)
+  stopped i h e = ap (before stop) (from_cons text i h) ∙ stopped-at stop _ _ (sym (ap stop (from_cons text i h)) ∙ e)
 
   pub going : (i : ℕ) → i < length text → stop (from text i) ≡ false → before stop (from text i) ≡ suc (before stop (from text (i + 1)))
-  going i h e = ap (before stop) (from_cons text i h) ∙ going-at _ _ (sym (ap stop (from_cons text i h)) ∙ e)
+  going i h e = ap (before stop) (from_cons text i h) ∙ going-at stop _ _ (sym (ap stop (from_cons text i h)) ∙ e)
 
   -- the loop: where it stops is the same from each offset on the way
   pub moves : (at i : ℕ) → i < length text → stop (from text i) ≡ false
@@ -96,45 +122,6 @@ module _ (stop : Bytes → Bool) (text : Bytes) where
       → at + before stop (from text at) ≡ i + before stop (from text i) → i ≡ at + before stop (from text at)
   ends at i h q = let g = ended i h in omega arith
 
--- inside a comment
-module _ (text : Bytes) (i : ℕ) where
-  pub last_byte : length text - i ≤ 1 → ends_comment (from text i) ≡ true
-  unfolding ends_comment
-  last_byte h = or_inr (begins 42 47 (from text i)) (leb (length (from text i)) 1) (rw (length-drop i text) (le-leb _ _ h))
-
-  pub closes : begins 42 47 (from text i) ≡ true → ends_comment (from text i) ≡ true
-  unfolding ends_comment
-  closes e = rw e
-
-  pub goes_on : begins 42 47 (from text i) ≡ false → 1 < length text - i → ends_comment (from text i) ≡ false
-  unfolding ends_comment
-  goes_on e h = rw (e, length-drop i text) (lt-leb _ _ h)
-
--- the loop over a comment: up to the last byte
-module _ (text : Bytes) (at i : ℕ) (e : at + before ends_comment (from text at) ≡ i + before ends_comment (from text i)) where
-  module _ (more : i + 1 < length text) where
-    pub comment_closes : get_or text i 0 ≡ 42 → get_or text (i + 1) 0 ≡ 47 → i ≡ at + before ends_comment (from text at)
-    comment_closes a b =
-        stops ends_comment text at i (omega arith)
-        (closes text i (sym (begins-first 42 47 text i (sym (inside text i (omega arith)) ∙ a)) ∙ eq-eqb _ _ (sym (inside text (i + 1) more) ∙ b)))
-        e
-
-    goes : begins 42 47 (from text i) ≡ false → at + before ends_comment (from text at) ≡ i + 1 + before ends_comment (from text (i + 1))
-    goes b = moves ends_comment text at i (omega arith) (goes_on text i b (omega arith)) e
-
-    pub comment_plain : (get_or text i 0 ≡ 42 → ⊥) → at + before ends_comment (from text at) ≡ i + 1 + before ends_comment (from text (i + 1))
-    comment_plain a = goes (begins_not 42 47 text i (λ q. a (inside text i (omega arith) ∙ q)))
-
-    pub comment_star : get_or text i 0 ≡ 42 → (get_or text (i + 1) 0 ≡ 47 → ⊥) → at + before ends_comment (from text at) ≡ i + 1 + before ends_comment (from text (i + 1))
-    comment_star a b = goes (sym (begins-first 42 47 text i (sym (inside text i (omega arith)) ∙ a)) ∙ ne_eqb _ _ (λ q. b (inside text (i + 1) more ∙ q)))
-
-  pub comment_last : length text ≤ i + 1 → i ≡ at + before ends_comment (from text at)
-  comment_last h = by (leb (length text) i) refl
-    where
-      by : (t : Bool) → leb (length text) i ≡ t → i ≡ at + before ends_comment (from text at)
-      by true q = ends ends_comment text at i (leb-true _ _ q) e
-      by false q = let k = leb-false _ _ q in stops ends_comment text at i k (last_byte text i (omega arith)) e
-
 -- lines and columns: one byte more
 pub after_more : (p : Place) (l : Bytes) (b : ℕ) → after_all p (l ++ (b ∷ [])) ≡ after (after_all p l) b
 unfolding after_all
@@ -142,27 +129,21 @@ after_more p [] b = refl
 after_more p (x ∷ l) b = after_more (after p x) l b
 
 -- the place of one offset further
-pub place-more : (text : Bytes) (i : ℕ) → i < length text → place_of text (i + 1) ≡ after (place_of text i) (byte_at text i)
+module _ (text : Bytes) (i : ℕ) (more : i < length text) where
+  place-more : place_of text (i + 1) ≡ after (place_of text i) (get_or text i 0)
+  unfolding place_of
+  place-more = rw (add-one i, take-suc text i 0 more) (after_more _ (take i text) (get_or text i 0))
+
+  module _ (line column : ℕ) (here : record { line = line; column = column } ≡ place_of text i) where
+    pub next-line : get_or text i 0 ≡ 10 → record { line = line + 1; column = 1 } ≡ place_of text (i + 1)
+    unfolding after
+    next-line e = sym (place-more ∙ rw (← here, e))
+
+    pub next-column : (get_or text i 0 ≡ 10 → ⊥) → record { line = line; column = column + 1 } ≡ place_of text (i + 1)
+    unfolding after
+    next-column e = sym (place-more ∙ rw (← here) (rw (ne_eqb _ _ e, after)))
+
+-- all that was read
+pub place_end : (text : Bytes) (n offset i : ℕ) → n ≡ min offset (length text) → length (take n text) ≤ i → place_of (take n text) i ≡ place_of text offset
 unfolding place_of
-place-more text i h = rw (add-one i, take-suc text i 256 h) (after_more _ (take i text) (byte_at text i))
-
--- past the end
-pub place_end : (text : Bytes) (i j : ℕ) → length text ≤ i → length text ≤ j → place_of text i ≡ place_of text j
-unfolding place_of
-place_end text i j h k = rw (take_all i text h, take_all j text k)
-
-pub feed : (p : Place) (b : ℕ) → b ≡ 10 → after p b ≡ record { line = p.line + 1; column = 1 }
-unfolding after
-feed p b e = rw e
-
-pub no_feed : (p : Place) (b : ℕ) → (b ≡ 10 → ⊥) → after p b ≡ record { line = p.line; column = p.column + 1 }
-unfolding after
-no_feed p b e = rw (ne_eqb b 10 e, after)
-
--- a turn of the loop over lines
-module _ (text : Bytes) (i : ℕ) (inside-text : i < length text) (line column line' column' : ℕ) (here : record { line = line; column = column } ≡ place_of text i) where
-  pub next-line : byte_at text i ≡ 10 → line' ≡ line + 1 → column' ≡ 1 → record { line = line'; column = column' } ≡ place_of text (i + 1)
-  next-line e a b = sym (place-more text i inside-text ∙ (feed (place_of text i) (byte_at text i) e ∙ rw (← here, a, b)))
-
-  pub next-column : (byte_at text i ≡ 10 → ⊥) → line' ≡ line → column' ≡ column + 1 → record { line = line'; column = column' } ≡ place_of text (i + 1)
-  next-column e a b = sym (place-more text i inside-text ∙ (no_feed (place_of text i) (byte_at text i) e ∙ rw (← here, a, b)))
+place_end text n offset i e h = rw (take_all i (take n text) h, e, take_min offset text)

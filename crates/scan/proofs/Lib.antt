@@ -2,3 +2,4 @@ pub mod Going
 pub mod Table
 pub mod Past
 pub mod Classes
+pub mod Pairs

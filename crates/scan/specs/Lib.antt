@@ -1,1 +1,3 @@
 pub mod Where
+pub mod Classes
+pub mod Ends

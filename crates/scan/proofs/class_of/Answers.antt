@@ -7,15 +7,12 @@ use Rattle.scan.proofs.class_of.Goals as goal
 pub returns-then-b-lt64 : goal.returns-then-b-lt64
 returns-then-b-lt64 c = sym (word-digit _ c.if-b-lt64.true (sym c.is_word_byte.ensures ∙ c.if-is_word_byte.true))
 
-pub returns-then-is_word_byte : goal.returns-then-is_word_byte
-returns-then-is_word_byte c = sym (word-letter _ c.if-b-lt64.false (sym c.is_word_byte.ensures ∙ c.if-is_word_byte.true))
+pub returns-else-b-lt64 : goal.returns-else-b-lt64
+returns-else-b-lt64 c = sym (word-letter _ c.if-b-lt64.false (sym c.is_word_byte.ensures ∙ c.if-is_word_byte.true))
 
 pub returns-then-is_blank : goal.returns-then-is_blank
 unfolding is_blank
 returns-then-is_blank c = sym (eqb-true _ _ (sym c.is_blank.ensures ∙ c.if-is_blank.true))
 
-pub returns-then-is_mark : goal.returns-then-is_mark
-returns-then-is_mark c = sym (eqb-true _ _ (sym c.is_mark.ensures ∙ c.if-is_mark.true))
-
-pub returns : goal.returns
-returns c = sym (no_class _ (sym c.is_word_byte.ensures ∙ c.if-is_word_byte.false) (sym c.is_blank.ensures ∙ c.if-is_blank.false) (sym c.is_mark.ensures ∙ c.if-is_mark.false))
+pub returns-else-is_mark : goal.returns-else-is_mark
+returns-else-is_mark c = sym (no_class _ (sym c.is_word_byte.ensures ∙ c.if-is_word_byte.false) (sym c.is_blank.ensures ∙ c.if-is_blank.false) (sym c.is_mark.ensures ∙ c.if-is_mark.false))
