@@ -1,9 +1,6 @@
--- What the code's answer is in the definition.
-use Rattle.definition.specs.Answer.{Answer, got, refused}
-use Rattle.definition.specs.Attribute as def
-use Rattle.attributes.specs.declared.Attribute.{Attribute}
-use Rattle.attributes.specs.declared.Attribute.TheVariants.{Got, Refused}
+-- What the code says of an attribute, in the definition.
+use Rattle.std.specs.Prelude.{Bool, ℕ}
+use Rattle.definition.specs.Attribute.{Attribute}
 
-abbrev pub attribute : Attribute → Answer def.Attribute
-attribute (Got layout next) = got (record { layout = layout; next = next })
-attribute (Refused n at) = refused n at
+abbrev pub attribute : Bool × ℕ → Attribute
+attribute a = record { layout = a.0; next = a.1 }

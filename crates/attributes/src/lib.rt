@@ -3,40 +3,37 @@
 ghost use Rattle.std.specs.Prelude.{◌≡◌, zero, ◌+◌, ◌≤◌, ◌<◌, length};
 ghost use Rattle.definition.specs.Scan.{from, starts_with, contains};
 ghost use Rattle.definition.specs.Attribute.{in_parens, changes_layout, parenthesized, attribute_at};
+ghost use Rattle.encoding.specs.Refusals.{answer_by};
 ghost use Rattle.attributes.specs.Shown.{attribute};
 
 use encoding::ascii::{CLOSE_PAREN, OPEN_PAREN};
-use encoding::refusals::NOT_CLOSED;
-use scan::{blanks_end, byte_at};
+use encoding::refusals::{Reason, Refusal};
+use scan::{blanks_end, byte_at, from};
 
-// An attribute: whether its body could change a layout, and where it ends; or a refusal with its number and offset.
-#[derive(Clone, Copy)]
-pub enum Attribute {
-    Got(bool, usize),
-    Refused(u32, usize),
-}
+// What a body has that could change a layout.
+const LAYOUT_WORDS: [&[u8]; 5] = [
+    b"packed",
+    b"aligned",
+    b"mode",
+    b"vector_size",
+    b"transparent_union",
+];
 
 // Where the parenthesis closes whose inside begins at an offset; the text's end where it does not.
 pub fn parens_end(text: &[u8], at: usize) -> usize
     ensures { result ≡ at + in_parens zero (from text.now at) }
 {
-    let mut i = at;
+    let rest = from(text, at);
     let mut deep: usize = 0;
-    while i < text.len() {
-        let b = byte_at(text, i);
-        if b == OPEN_PAREN {
-            deep += 1;
-        } else {
-            if b == CLOSE_PAREN {
-                if deep == 0 {
-                    return i;
-                }
-                deep -= 1;
-            }
+    for (i, b) in rest.iter().enumerate() {
+        match u32::from(*b) {
+            OPEN_PAREN => deep += 1,
+            CLOSE_PAREN if deep == 0 => return at + i,
+            CLOSE_PAREN => deep -= 1,
+            _ => {}
         }
-        i += 1;
     }
-    i
+    at + rest.len()
 }
 
 // A spelling stands at an index.
@@ -44,73 +41,47 @@ pub fn starts_with(body: &[u8], at: usize, word: &[u8]) -> bool
     requires { at ≤ length body.now }
     ensures { result ≡ starts_with word.now (from body.now at) }
 {
-    let mut k = 0;
-    while k < word.len() {
-        if body.len() - at <= k {
-            return false;
-        }
-        if byte_at(body, at + k) != byte_at(word, k) {
-            return false;
-        }
-        k += 1;
-    }
-    true
+    body[at..].starts_with(word)
 }
 
 // A spelling stands somewhere.
 pub fn contains(body: &[u8], word: &[u8]) -> bool
     ensures { result ≡ contains word.now body.now }
 {
-    let mut i = 0;
-    while i < body.len() {
-        if starts_with(body, i, word) {
-            return true;
-        }
-        i += 1;
-    }
-    starts_with(body, i, word)
+    word.is_empty() || body.windows(word.len()).any(|part| word == part)
 }
 
 // A body that could change a layout.
 pub fn changes_layout(body: &[u8]) -> bool
     ensures { result ≡ changes_layout body.now }
 {
-    if contains(body, b"packed") {
-        return true;
-    }
-    if contains(body, b"aligned") {
-        return true;
-    }
-    if contains(body, b"mode") {
-        return true;
-    }
-    if contains(body, b"vector_size") {
-        return true;
-    }
-    contains(body, b"transparent_union")
+    LAYOUT_WORDS.iter().any(|word| contains(body, word))
 }
 
-// What stands in the parentheses that open at an offset.
-pub fn parenthesized(text: &[u8], word: usize, at: usize) -> Attribute
+// The attribute in the parentheses that open at an offset: whether it could change a layout, and where it ends.
+pub fn parenthesized(text: &[u8], word: usize, at: usize) -> Result<(bool, usize), Refusal>
     requires { at < length text.now }
-    ensures { attribute result ≡ parenthesized text.now word at }
+    ensures { answer_by attribute result ≡ parenthesized text.now word at }
 {
     let begin = at + 1;
     let end = parens_end(text, begin);
     if text.len() <= end {
-        return Attribute::Refused(NOT_CLOSED, word);
+        return Err(Refusal {
+            reason: Reason::NotClosed,
+            at: word,
+        });
     }
     let layout = changes_layout(&text[begin..end]);
-    Attribute::Got(layout, end + 1)
+    Ok((layout, end + 1))
 }
 
-// The attribute whose word begins at `word` and ends at an offset.
-pub fn attribute_at(text: &[u8], word: usize, at: usize) -> Attribute
-    ensures { attribute result ≡ attribute_at text.now word at }
+// The same of the attribute whose word begins at `word` and ends at an offset.
+pub fn attribute_at(text: &[u8], word: usize, at: usize) -> Result<(bool, usize), Refusal>
+    ensures { answer_by attribute result ≡ attribute_at text.now word at }
 {
     let open = blanks_end(text, at);
     if byte_at(text, open) != OPEN_PAREN {
-        return Attribute::Got(false, at);
+        return Ok((false, at));
     }
     parenthesized(text, word, open)
 }

@@ -2,4 +2,4 @@ pub mod Going
 pub mod Table
 pub mod Past
 pub mod Classes
-pub mod Pairs
+pub mod Windows

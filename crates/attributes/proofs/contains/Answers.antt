@@ -1,16 +1,18 @@
-use native.Mathlib.Omega.{arith}
-use mathlib.Core.Path.{refl, sym, ◌∙◌}
-use Rattle.attributes.proofs.Within.{found, not_here, at-end}
+use mathlib.Core.Path.{sym, ◌∙◌}
+use Rattle.std.proofs.Common.{rules, length, ◌<◌}
+use borrow.Author.Tests.{tests}
+use Rattle.std.proofs.lemmas.Iterator.Search.{any_from_yields_List}
+use Rattle.std.specs.Cmp.Lexicographic.{pointwise}
+use lib.Dec.{eqb}
+use Rattle.scan.proofs.Windows.{YieldsList-from_windows}
+use Rattle.attributes.proofs.Within.{empty_within, somewhere}
 use Rattle.attributes.proofs.contains.Goals as goal
 
-pub loop-i-init : goal.loop-i-init
-loop-i-init c = (omega arith, refl)
+pub returns-then-is_empty : goal.returns-then-is_empty
+returns-then-is_empty c = c.if-is_empty.true ∙ sym (empty_within _ _ (search (rules, tests)))
 
-pub returns-then-starts_with : goal.returns-then-starts_with
-returns-then-starts_with c = sym (c.loop-i.invariant.1 ∙ found c.args.word.now c.args.body.now c.loop-i.i c.loop-i-test.true (sym c.starts_with.ensures ∙ c.if-starts_with.true))
-
-pub loop-i-preserved : goal.loop-i-preserved
-loop-i-preserved c = (omega arith, c.loop-i.invariant.1 ∙ not_here c.args.word.now c.args.body.now c.loop-i.i c.loop-i-test.true (sym c.starts_with.ensures ∙ c.if-starts_with.false))
-
-pub returns : goal.returns
-returns c = c.starts_with-2.ensures ∙ sym (c.loop-i.invariant.1 ∙ at-end c.args.word.now c.args.body.now c.loop-i.i c.loop-i-test.false)
+pub returns-else-is_empty : goal.returns-else-is_empty
+returns-else-is_empty c =
+    let some : 0 < length c.args.word.now = search (rules, tests) in
+    let chain = YieldsList-from_windows {s = c.windows.result} (length c.args.word.now) c.args.body.now some (search rules) (search rules) in
+    any_from_yields_List (pointwise eqb c.args.word.now) _ _ c.any.result c.any.ensures.ran chain (λ x b q k. search (rules, tests)) ∙ somewhere _ _ some

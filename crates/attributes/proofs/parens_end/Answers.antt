@@ -1,20 +1,17 @@
-use native.Mathlib.Omega.{arith}
-use mathlib.Core.Path.{refl, sym, ◌∙◌}
-use Rattle.attributes.proofs.Parens.{parens-end, paren_opens, paren_other, paren_closes, paren_last}
+use Rattle.std.proofs.Common.{rules, arith, sym, ◌∙◌}
+use Rattle.attributes.proofs.Parens.{parens-end, opens, other, last_closes, closes}
 use Rattle.attributes.proofs.parens_end.Goals as goal
-use Rattle.attributes.proofs.parens_end.Goals.{then-b-eq-OPEN_PAREN, else-b-eq-OPEN_PAREN+then-b-eq-CLOSE_PAREN+else-deep-eq0, else-b-eq-OPEN_PAREN+else-b-eq-CLOSE_PAREN}
+use Rattle.attributes.proofs.parens_end.Goals.{in-40, in-41-2, in_default}
 
-pub loop-i-init : goal.loop-i-init
-loop-i-init c = (omega arith, refl)
-
-pub returns-then-deep-eq0 : goal.returns-then-deep-eq0
-returns-then-deep-eq0 c = paren_last c.args.text.now c.loop-i.i c.loop-i-test.true _ c.loop-i.deep c.loop-i.invariant.1 (λ e. c.if-b-eq-OPEN_PAREN.false (c.byte_at-b.ensures ∙ e)) (sym c.byte_at-b.ensures ∙ c.if-b-eq-CLOSE_PAREN.true) c.if-deep-eq0.true
+pub returns-in-41 : goal.returns-in-41
+returns-in-41 c = let e = last_closes c.from-rest.result.now c.loop-i.i c.loop-i-test.true c.loop-i.deep (sym c.from.ensures ∙ c.in-41.is) c.if-deep-eq0.true in rw (← c.from-rest.ensures) (omega arith)
 
 pub loop-i-preserved : goal.loop-i-preserved
-loop-i-preserved c = (
-  elim c.if-b-eq-OPEN_PAREN.branch [ then-b-eq-OPEN_PAREN w ↦ omega (arith, w.deep-is) | else-b-eq-OPEN_PAREN+then-b-eq-CLOSE_PAREN+else-deep-eq0 w ↦ omega (arith, w.deep-is) | else-b-eq-OPEN_PAREN+else-b-eq-CLOSE_PAREN w ↦ omega (arith, w.deep-is) ],
-  elim c.if-b-eq-OPEN_PAREN.branch [ then-b-eq-OPEN_PAREN w ↦ paren_opens c.args.text.now c.loop-i.i c.loop-i-test.true _ c.loop-i.deep c.loop-i.invariant.1 _ (sym c.byte_at-b.ensures ∙ w.if-b-eq-OPEN_PAREN.true) w.deep-is | else-b-eq-OPEN_PAREN+then-b-eq-CLOSE_PAREN+else-deep-eq0 w ↦ paren_closes c.args.text.now c.loop-i.i c.loop-i-test.true _ c.loop-i.deep c.loop-i.invariant.1 _ (λ e. w.if-b-eq-OPEN_PAREN.false (c.byte_at-b.ensures ∙ e)) (sym c.byte_at-b.ensures ∙ w.if-b-eq-CLOSE_PAREN.true) w.if-deep-eq0.false w.deep-is | else-b-eq-OPEN_PAREN+else-b-eq-CLOSE_PAREN w ↦ paren_other c.args.text.now c.loop-i.i c.loop-i-test.true _ c.loop-i.deep c.loop-i.invariant.1 _ (λ e. w.if-b-eq-OPEN_PAREN.false (c.byte_at-b.ensures ∙ e)) (λ e. w.if-b-eq-CLOSE_PAREN.false (c.byte_at-b.ensures ∙ e)) w.deep-is ],
-)
+loop-i-preserved c = elim c.match-from.branch [
+  | in-40 w ↦ rw w.deep-is (record { few = omega arith; rest = (let e = opens c.from-rest.result.now c.loop-i.i c.loop-i-test.true c.loop-i.deep (sym c.from.ensures ∙ w.in-40.is) in omega arith) })
+  | in-41-2 w ↦ rw w.deep-is (record { few = omega arith; rest = (let e = closes c.from-rest.result.now c.loop-i.i c.loop-i-test.true c.loop-i.deep (sym c.from.ensures ∙ w.in-41.is) w.if-deep-eq0.false in omega arith) })
+  | in_default w ↦ rw w.deep-is (record { few = omega arith; rest = (let e = other c.from-rest.result.now c.loop-i.i c.loop-i-test.true c.loop-i.deep (rw (← c.from.ensures) (search rules)) (rw (← c.from.ensures) (search rules)) in omega arith) })
+]
 
 pub returns : goal.returns
-returns c = let e = parens-end c.args.text.now c.loop-i.i c.loop-i.deep c.loop-i-test.false in omega (arith, e, c.loop-i.invariant.1)
+returns c = let e = parens-end c.from-rest.result.now c.loop-i.i c.loop-i.deep c.loop-i-test.false in rw (← c.from-rest.ensures) (omega arith)
