@@ -1,18 +1,15 @@
 -- Laws of the trees and of the walk. Assumes nothing.
 use mathlib.Core.Path.{◌≡◌, refl, sym, ap, ◌∙◌}
 use mathlib.Core.Bool.{Bool, true, false}
-use mathlib.Core.List.{List, ◌∷◌}
+use mathlib.Core.List.{List}
 use Prim.Native.Nat.{ℕ, suc, ◌+◌, ◌-◌, ◌*◌, ◌/◌, ◌%◌, ◌^◌, ◌≤◌, ◌<◌}
 use native.Mathlib.Omega.{arith}
 use lib.Dec.{ltb}
 use lib.ListN.{length, get_or}
 use Rattle.definition.specs.Text.{Bytes, byte_at}
-use Rattle.definition.specs.Scan.{from}
-use Rattle.lemmas.proofs.Branch.{lt_yes, lt_no}
-use Rattle.scan.proofs.Going.{from_cons, from_end}
 use Rattle.spellings.specs.Names.{is_name_of}
 use Rattle.spellings.specs.declared.Spot.TheVariants.{Known, Free}
-use Rattle.spellings.specs.Chain.{hashed, HeadCount, few, many, slot, bit_of, branch, Reach, here, there, Keeps, Rising, Walked, met, none}
+use Rattle.spellings.specs.Chain.{bit_of, branch, Reach, here, there, Keeps, Rising, Walked, met, none}
 
 -- a bit of a spelling
 bit-low : (w : Bytes) (d : ℕ) → bit_of w d < 2
@@ -24,11 +21,10 @@ bit-low w d = by (ltb (length w) (d / 8 + 1)) (byte_at w (length w - (d / 8 + 1)
     by false x = omega arith
 
 -- the walk: at a link and a depth, what is come by from here is come by from the head
-pub record On (text w : Bytes) (ks ns ls : List ℕ) (count heads head s d c : ℕ) : Type 0 where
-  pub is : c ≡ get_or ls s 0
-  pub low : c ≤ count
+pub record On (text w : Bytes) (ks ns ls : List ℕ) (count heads head s d : ℕ) : Type 0 where
+  pub low : get_or ls s 0 ≤ count
   pub within : s < heads + 2 * count
-  pub deep : 0 < c → d < c
+  pub deep : 0 < get_or ls s 0 → d < get_or ls s 0
   pub miss : ((j : ℕ) → Reach heads ls w d s j → is_name_of text w (get_or ks j 0) (get_or ns j 0) ≡ false) → (j : ℕ) → Reach heads ls w 0 head j → is_name_of text w (get_or ks j 0) (get_or ns j 0) ≡ false
   pub path : (ls' : List ℕ) (j : ℕ) → Keeps ls ls' → Reach heads ls' w d s j → Reach heads ls' w 0 head j
 
@@ -41,31 +37,22 @@ module _ (heads : ℕ) (ls : List ℕ) (w : Bytes) (f : ℕ → Bool) where
   nowhere d s _ h (here _ _ k y) = absurd (omega arith)
   nowhere d s _ h (there _ _ i m y r) = absurd (omega arith)
 
-module _ (text w : Bytes) (ks ns ls : List ℕ) (count heads head : ℕ) (rising : Rising ls heads count) where
-  pub on-start : head < heads → (c : ℕ) → c ≡ get_or ls head 0 → On text w ks ns ls count heads head head 0 c
-  on-start h c e = let l = rising.low head in record { is = e; low = omega arith; within = omega arith; deep = λ p. p; miss = λ f. f; path = λ ls' j k r. r }
-
-  module _ (s d c : ℕ) (on : On text w ks ns ls count heads head s d c) where
-    pub on-next : (i s' c' : ℕ) → c ≡ suc i → is_name_of text w (get_or ks i 0) (get_or ns i 0) ≡ false → s' ≡ branch heads w d i → c' ≡ get_or ls s' 0 → On text w ks ns ls count heads head s' (d + 1) c'
-    on-next i s' c' e f q y =
-        let l = rising.low s' in
+module _ {text w : Bytes} {ks ns ls : List ℕ} {count heads head : ℕ} (rising : Rising ls heads count) where
+  module _ {s d : ℕ} (on : On text w ks ns ls count heads head s d) where
+    pub on-next : (i s' : ℕ) → get_or ls s 0 ≡ suc i → is_name_of text w (get_or ks i 0) (get_or ns i 0) ≡ false → s' ≡ branch heads w d i → On text w ks ns ls count heads head s' (d + 1)
+    on-next i s' e f q =
         let a = on.low in
         let b = bit-low w d in
-        let z : get_or ls s 0 ≡ suc i = sym on.is ∙ e in
         record {
-          is = y;
-          low = omega arith;
+          low = rising.low s';
           within = omega arith;
-          deep = λ p. let u = rising.rises i (bit_of w d) b (let v : c' ≡ get_or ls (branch heads w d i) 0 = y ∙ ap (λ (x : ℕ). get_or ls x 0) q in omega (arith, v, p)) in let v : c' ≡ get_or ls (branch heads w d i) 0 = y ∙ ap (λ (x : ℕ). get_or ls x 0) q in let t = on.deep (omega (arith, e)) in omega (arith, u, v, t, e);
-          miss = λ g. on.miss (λ j r. split heads ls w (λ k. is_name_of text w (get_or ks k 0) (get_or ns k 0)) d s i j z f (λ k x. g k (rw q x)) r);
-          path = λ ls' j k r. on.path ls' j k (there d s i j (k s (λ o. absurd (omega (arith, o, z))) ∙ z) (rw q at r));
+          deep = λ p. (let u = rising.rises i (bit_of w d) b (rw q at p) in let t = on.deep (omega (arith, e)) in rw q (omega (arith, u, t, e)));
+          miss = λ g. on.miss (λ j r. split heads ls w (λ k. is_name_of text w (get_or ks k 0) (get_or ns k 0)) d s i j e f (λ k x. g k (rw q x)) r);
+          path = λ ls' j k r. on.path ls' j k (there d s i j (k s (λ o. absurd (omega (arith, o, e))) ∙ e) (rw q at r));
         }
 
-    pub on-end : c ≤ 0 → Walked text w ks ns ls count heads head (Free s)
-    on-end h =
-        let e = on.is in
-        let z : get_or ls s 0 ≡ 0 = omega arith in
-        none s refl on.within z (on.miss (λ j r. nowhere heads ls w (λ k. is_name_of text w (get_or ks k 0) (get_or ns k 0)) d s j z r)) (λ ls' j k q. on.path ls' j k (here d s j q))
+    pub on-end : get_or ls s 0 ≡ 0 → Walked text w ks ns ls count heads head (Free s)
+    on-end z = none s refl on.within z (on.miss (λ j r. nowhere heads ls w (λ k. is_name_of text w (get_or ks k 0) (get_or ns k 0)) d s j z r)) (λ ls' j k q. on.path ls' j k (here d s j q))
 
-    pub on-found : (i : ℕ) → c ≡ suc i → is_name_of text w (get_or ks i 0) (get_or ns i 0) ≡ true → Walked text w ks ns ls count heads head (Known (get_or ns i 0))
+    pub on-found : (i : ℕ) → get_or ls s 0 ≡ suc i → is_name_of text w (get_or ks i 0) (get_or ns i 0) ≡ true → Walked text w ks ns ls count heads head (Known (get_or ns i 0))
     on-found i e p = let l = on.low in met i (omega arith) p refl

@@ -1,5 +1,5 @@
 -- Trees of the names read so far, one for each hash of a spelling. A link is the index of a token and 1, or 0. Among the links the heads stand first, then two for each token.
-use Rattle.std.specs.Prelude.{◌≡◌, true, false, List, [], ◌∷◌, ℕ, suc, ◌+◌, ◌-◌, ◌*◌, ◌/◌, ◌%◌, ◌^◌, ◌≤◌, ◌<◌, ltb, length, get_or}
+use Rattle.std.specs.Prelude.{◌≡◌, true, false, List, ℕ, suc, ◌+◌, ◌-◌, ◌*◌, ◌/◌, ◌%◌, ◌^◌, ◌≤◌, ◌<◌, ltb, length, get_or}
 use Rattle.std.specs.List.{fold}
 use Rattle.definition.specs.Text.{Bytes, byte_at}
 use Rattle.definition.specs.Kind.{is_name}

@@ -7,10 +7,8 @@ ghost use Rattle.definition.specs.Scan.{from};
 ghost use Rattle.spellings.specs.Names.{spelled_by, Inside, is_name_of};
 ghost use Rattle.spellings.specs.Chain.{hashed, HeadCount, slot, bit_of, Walks, Walked};
 
-use attributes::starts_with;
 use encoding::names::NAME_UNIT;
 use encoding::token_kinds::{BOOL_NAME, IDENTIFIER};
-use scan::byte_at;
 
 const BYTE_BITS: usize = 8;
 
@@ -120,16 +118,13 @@ pub fn walk(
 {
     let mut spot = head;
     let mut depth = 0;
-    let mut cur = links[spot] as usize;
-    while 0 < cur {
-        let j = cur - 1;
-        let n = numbers[j];
-        if is_name_of(text, kinds[j], n, at, end) {
-            return Spot::Known(n);
+    while let Some(j) = usize::from(links[spot]).checked_sub(1) {
+        let name = numbers[j];
+        if is_name_of(text, kinds[j], name, at, end) {
+            return Spot::Known(name);
         }
         spot = heads + LINKS * j + side(&text[at..end], depth);
         depth += 1;
-        cur = links[spot] as usize;
     }
     Spot::Free(spot)
 }

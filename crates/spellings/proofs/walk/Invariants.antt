@@ -4,8 +4,8 @@ use Rattle.definition.specs.Scan.{from}
 use Rattle.spellings.proofs.Steps.{On}
 use Rattle.spellings.proofs.walk.Given as goal
 
-abbrev pub invariant-loop-cur : goal.invariant-loop-cur
-invariant-loop-cur l = On l.text (take (l.end - l.at) (from l.text l.at)) l.kinds l.numbers l.links l.count l.heads l.head l.spot l.depth l.cur
+abbrev pub invariant-loop-j : goal.invariant-loop-j
+invariant-loop-j l = On l.text (take (l.end - l.at) (from l.text l.at)) l.kinds l.numbers l.links l.count l.heads l.head l.spot l.depth
 
-abbrev pub decreases-loop-cur : goal.decreases-loop-cur
-decreases-loop-cur l = l.count - l.depth
+abbrev pub decreases-loop-j : goal.decreases-loop-j
+decreases-loop-j l = l.count - l.depth
