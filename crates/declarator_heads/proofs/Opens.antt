@@ -1,7 +1,7 @@
 -- What stands after a parenthesis, test by test. Assumes nothing.
-use mathlib.Core.Path.{◌≡◌, sym, ◌∙◌}
-use mathlib.Core.Bool.{true, false}
-use mathlib.Core.Option.{none, some}
+use mathlib.Core.Path.{◌≡◌, refl, sym, ◌∙◌}
+use mathlib.Core.Bool.{Bool, true, false, not}
+use mathlib.Core.Option.{Option, none, some}
 use mathlib.Core.List.{List}
 use Prim.Native.Nat.{ℕ, ◌+◌}
 use borrow.Author.Tests.{eq-eqb, ne_eqb}
@@ -16,6 +16,8 @@ use Rattle.definition.specs.Types.{typedef_row}
 use Rattle.definition.specs.Specifier.{builtin}
 use Rattle.definition.specs.Declarator.{opens_declarator}
 use Rattle.table.specs.Reply.{Peek}
+use Rattle.words.specs.Meaning.{known}
+use Rattle.std.specs.Prelude.{is_some}
 
 -- a token that was read is of a kind, or not
 pub of-kind : {ks : List ℕ} {i k b : ℕ} → Peek ks i k → k ≡ b → eqb (get_or ks i 0) b ≡ true
@@ -50,10 +52,12 @@ module _ (ts : Tokens) (m : Model) (s : State) where
           of-typedef e = rw (o, n, p, i, e)
 
           module _ (t : typedef_row s.table (number_at ts (s.at + 1)) ≡ none) where
-            pub of-builtin : {row : Row} → builtin m (kind_at ts (s.at + 1)) ≡ some row → opens_declarator ts m s ≡ false
-            unfolding opens_declarator
-            of-builtin e = rw (o, n, p, i, t, e)
+            by-known : (x : Option Row) (b : Bool) → builtin m (kind_at ts (s.at + 1)) ≡ x → is_some (known x) ≡ not b → b ≡ opens_declarator ts m s
+            unfolding opens_declarator known
+            by-known (some r) true e q = cc
+            by-known (some r) false e q = rw (o, n, p, i, t, e)
+            by-known none true e q = rw (o, n, p, i, t, e)
+            by-known none false e q = cc
 
-            pub of_none : builtin m (kind_at ts (s.at + 1)) ≡ none → opens_declarator ts m s ≡ true
-            unfolding opens_declarator
-            of_none e = rw (o, n, p, i, t, e)
+            pub of-known : {b : Bool} → is_some (known (builtin m (kind_at ts (s.at + 1)))) ≡ not b → b ≡ opens_declarator ts m s
+            of-known q = by-known _ _ refl q

@@ -8,12 +8,12 @@ use lib.Dec.{eqb}
 use lib.ListN.{length, get_or}
 use borrow.Author.Tests.{eq-eqb, ne_eqb}
 use Rattle.definition.specs.Kind.{is_name, star, open_bracket, open_paren}
+use Rattle.definition.specs.Row.{Qualifiers}
 use Rattle.definition.specs.Table.{new_table}
 use Rattle.definition.specs.Declarator.{qualifiers_here}
 use Rattle.table.specs.Reply.{Peek}
 use Rattle.table.proofs.Steps.{there}
-use Rattle.skipping.specs.declared.Qualified.{Qualified}
-use Rattle.skipping.specs.Passing.{tokens, standing, qualifiers_of}
+use Rattle.skipping.specs.Passing.{tokens, standing}
 use Rattle.declarator_heads.specs.Heads.{is_plain, is_plain_pointer}
 
 -- a name is a token
@@ -35,6 +35,6 @@ module _ {ks : List ℕ} {i k : ℕ} (p : Peek ks i k) where
   unfolding is_plain_pointer
   no_star n = rw (ne_eqb (get_or ks i 0) star (λ e. n (p.is ∙ e)))
 
-  pub by_name : {q : Qualified} → k ≡ star → qualifiers_here (tokens ks []) (standing (i + 1) new_table) ≡ (qualifiers_of q, standing q.at new_table) → is_plain_pointer ks i ≡ is_plain ks q.at
+  pub by_name : {q : Qualifiers} {next : ℕ} → k ≡ star → qualifiers_here (tokens ks []) (standing (i + 1) new_table) ≡ (q, standing next new_table) → is_plain_pointer ks i ≡ is_plain ks next
   unfolding is_plain_pointer
   by_name e f = rw (eq-eqb (get_or ks i 0) star (sym p.is ∙ e), f)

@@ -31,8 +31,7 @@ use Rattle.table.proofs.Steps.{there, is+, is-}
 use Rattle.declarator_steps.specs.declared.Steps.{Steps}
 use Rattle.declarator_steps.specs.Pending.{pending, with_star, Room}
 use Rattle.declarator_steps.proofs.Views.{hold_counts}
-use Rattle.skipping.specs.declared.Qualified.{Qualified}
-use Rattle.skipping.specs.Passing.{tokens, standing, qualifiers_of}
+use Rattle.skipping.specs.Passing.{tokens, standing}
 use Rattle.declarator_heads.specs.declared.Declared.{Declared}
 use Rattle.declarator_heads.specs.Heads.{stars_here, Holds, Stars}
 
@@ -93,24 +92,24 @@ module _ {ks : List ℕ} {c : Cursor} {s : Steps} {here : Cursor} {t : Steps} (g
     })
 
     -- one stands here, with what it is followed by
-    module _ {z : Qualified} {here' : Cursor} (n : full ≡ false)
-        (f : (ns : List ℕ) (b : Table) → qualifiers_here (tokens ks ns) (standing (here.at + 1) b) ≡ (qualifiers_of z, standing z.at b))
-        (m : here' ≡ moved_to here z.at) where
-      past : here.at < z.at
+    module _ {q' : Qualifiers} {next : ℕ} {here' : Cursor} (n : full ≡ false)
+        (f : (ns : List ℕ) (b : Table) → qualifiers_here (tokens ks ns) (standing (here.at + 1) b) ≡ (q', standing next b))
+        (m : here' ≡ moved_to here next) where
+      past : here.at < next
       past = omega (arith, rw (f [] new_table) at (qualifiers_from-on (tokens ks []) (suc (left (tokens ks []) (here.at + 1))) unqualified (standing (here.at + 1) new_table)))
 
       pub less : length ks - here'.at < length ks - here.at
       less = rw m (omega (arith, past, there p e))
 
-      pub again : {t' : Steps} → pending t' ≡ with_star (pending t) (qualifiers_of z) → Reading ks c s here' t'
+      pub again : {t' : Steps} → pending t' ≡ with_star (pending t) (q') → Reading ks c s here' t'
       unfolding stars_from
       again {t'} a =
           let counts = hold_counts t' t a in
           let low = (has_room t q n).below in
           record {
-            read = qualifiers_of z ∷ g.read;
+            read = q' ∷ g.read;
             holds = record {
-              all = a ∙ ap (λ y. with_star y (qualifiers_of z)) g.holds.all;
+              all = a ∙ ap (λ y. with_star y (q')) g.holds.all;
               len = counts.0 ∙ g.holds.len;
               held = omega (arith, counts.1, g.holds.held);
               waiting = record { stars = le_refl _; apart = omega (arith, counts.0, counts.1, low) };

@@ -9,7 +9,7 @@ ghost use Rattle.naming.specs.Names.{NamesFit};
 ghost use Rattle.skipping.specs.Passing.{tokens};
 ghost use Rattle.declarator_heads.specs.Heads.{Stars, Tells, is_plain, is_plain_pointer};
 
-use declarator_steps::{Steps, hold_star, is_full};
+use declarator_steps::Steps;
 use encoding::refusals::LIMIT_PASSED;
 use encoding::token_kinds::{OPEN_BRACKET, OPEN_PAREN, STAR};
 use model::Model;
@@ -18,7 +18,7 @@ use naming::name_at;
 use skipping::qualifiers_here;
 use table::{Cursor, Step, kind_at};
 use words::classes::is_name;
-use words::types::{Known, builtin};
+use words::types::builtin;
 
 // A declarator: the name that it declares and where to read on, or a refusal; and its steps.
 #[derive(Clone, Copy)]
@@ -47,12 +47,11 @@ pub fn stars(kinds: &[u32], c: Cursor, s: Steps) -> Declared
         if kind_at(kinds, at) != STAR {
             return Declared::new(Step::Done(here, 0), t);
         }
-        if is_full(t.len, t.held) {
+        if t.is_full() {
             return Declared::new(Step::Refused(LIMIT_PASSED, at + 1), t);
         }
-        let q = qualifiers_here(kinds, at + 1);
-        t = hold_star(t, q.constant, q.volatile, q.restrict);
-        let next = q.at;
+        let (q, next) = qualifiers_here(kinds, at + 1);
+        t = t.hold_star(q);
         here = here.moved(next);
     }
 }
@@ -81,11 +80,7 @@ pub fn opens_declarator(kinds: &[u32], numbers: &[u64], w: &[u32], c: Cursor, m:
     if let Found::At(_) = f {
         return false;
     }
-    let k = builtin(m, kind);
-    match k {
-        Known::Row(_) => false,
-        Known::Nothing => true,
-    }
+    builtin(m, kind).is_none()
 }
 
 // A name without a bound or a parameter list after it: a declarator that takes no steps.
@@ -106,6 +101,6 @@ pub fn is_plain_pointer(kinds: &[u32], at: usize) -> bool
     if kind_at(kinds, at) != STAR {
         return false;
     }
-    let q = qualifiers_here(kinds, at + 1);
-    is_plain(kinds, q.at)
+    let (_, next) = qualifiers_here(kinds, at + 1);
+    is_plain(kinds, next)
 }

@@ -13,7 +13,7 @@ ghost use Rattle.declarator_steps.specs.Pending.{shape_step, pending};
 ghost use Rattle.words.specs.Meaning.{qualifiers};
 ghost use Rattle.derived_types.specs.Derives.{span, bound_numbers, Nearest};
 
-use declarator_steps::{Shape, Steps, shape_of, step_at};
+use declarator_steps::{Shape, Steps};
 use encoding::refusals::IMPOSSIBLE_TYPE;
 use encoding::regions::NO_ROW;
 use encoding::row_kinds::{ARRAY_KIND, FUNCTION_KIND, POINTER_KIND, VOID_KIND};
@@ -205,14 +205,7 @@ fn apply_step(w: &mut [u32], d: &mut [u64], v: &mut [i64], c: Cursor, x: Shape, 
     ensures { Does (apply (shape_step x ∷ []) b) c w.old d.old v.old (step result) w.new d.new v.new }
 {
     match x {
-        Shape::Pointer(is_const, is_volatile, is_restrict) => {
-            let q = Qualifiers {
-                is_const,
-                is_volatile,
-                is_restrict,
-            };
-            apply_pointer(w, d, v, c, q, b)
-        }
+        Shape::Pointer(q) => apply_pointer(w, d, v, c, q, b),
         Shape::Array => apply_array(w, d, v, c, 0, 0, b),
         Shape::Bounded(n) => apply_array(w, d, v, c, 1, n, b),
         Shape::Function(varargs, first, count) => {
@@ -226,14 +219,12 @@ pub fn apply(w: &mut [u32], d: &mut [u64], v: &mut [i64], c: Cursor, s: Steps, b
     requires { Held c w.old d.old v.old × (s.len ≤ max_steps) }
     ensures { Does (apply (pending s).steps b) c w.old d.old v.old (step result) w.new d.new v.new }
 {
-    let kinds = s.kinds;
-    let operands = s.operands;
     let mut i = s.len;
     let mut here = c;
     let mut row = b;
     while 0 < i {
         i = i - 1;
-        let x = shape_of(step_at(&kinds, &operands, i));
+        let x = s.step_at(i).shape();
         let r = apply_step(w, d, v, here, x, row);
         let Step::Done(e, n) = r else {
             return r;

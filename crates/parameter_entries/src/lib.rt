@@ -6,7 +6,6 @@ ghost use Rattle.table.specs.Held.{Held};
 ghost use Rattle.table.specs.Reply.{step, Does};
 ghost use Rattle.parameter_entries.specs.Parameters.{Closes, VoidList, added_parameter};
 
-use declarator_steps::function;
 use derived_types::adjusted;
 use encoding::names::NO_NAME;
 use encoding::refusals::MISSING_MARK;
@@ -32,7 +31,10 @@ pub fn parameters_end(kinds: &[u32], c: Cursor, varargs: bool, first: u32, n: u3
     if kind_at(kinds, at) != CLOSE_PAREN {
         return Suffix::Refused(MISSING_MARK, at);
     }
-    Suffix::Done(c.moved(at + 1), function(varargs, first, n))
+    Suffix::Done(
+        c.moved(at + 1),
+        declarator_steps::Step::function(varargs, first, n),
+    )
 }
 
 // `( void )` alone is an empty list, and no parameter: it is asked after a parameter was read, the n-th from 0.

@@ -28,8 +28,7 @@ use Rattle.lemmas.proofs.Branch.{yes, eq_yes, eq_no}
 use Rattle.table.proofs.Shown.{got!, got-at, call, refuse, step-on}
 use Rattle.table.proofs.Steps.{there}
 use Rattle.constants.specs.Reading.{tokens}
-use Rattle.skipping.specs.declared.Qualified.{Qualified}
-use Rattle.skipping.specs.Passing.{standing, qualifiers_of}
+use Rattle.skipping.specs.Passing.{standing}
 use Rattle.declarator_heads.specs.Heads.{is_plain, is_plain_pointer}
 use Rattle.declarator_heads.proofs.Plain.{by_name, name-there as name-is-there}
 use Rattle.parser.specs.Answers.{both_numbers}
@@ -77,8 +76,8 @@ module _ (ks : List ℕ) (i : ℕ) (e : is_plain_pointer ks i ≡ true) where
   pub star-there : i < length ks
   star-there = let p : Peek ks i (get_or ks i 0) = record { is = refl } in there p a-star
 
-  pub a-plain : (q : Qualified) → qualifiers_here (tokens ks []) (standing (i + 1) new_table) ≡ (qualifiers_of q, standing q.at new_table) → is_plain ks q.at ≡ true
-  a-plain q f = let p : Peek ks i (get_or ks i 0) = record { is = refl } in sym (by_name p a-star f) ∙ e
+  pub a-plain : {q : Qualifiers} {next : ℕ} → qualifiers_here (tokens ks []) (standing (i + 1) new_table) ≡ (q, standing next new_table) → is_plain ks next ≡ true
+  a-plain f = let p : Peek ks i (get_or ks i 0) = record { is = refl } in sym (by_name p a-star f) ∙ e
 
 -- ---- what the definition reads
 
@@ -99,20 +98,20 @@ module _ (ks ns : List ℕ) (m : Model) (room : ℕ) (h : 2 ≤ room) where
   typed-name b s e = rw (a-declarator (tokens ks ns) m {room = room} 0 s (λ z. omega arith), no_stars (tokens ks ns) (left (tokens ks ns) s.at) 0 [] s (name-unlike (a-name ks s.at e)), direct-name 0 s e)
 
   -- a star before it: a pointer
-  module _ (b : ℕ) (s : State) {q : Qualified} (e : is_plain_pointer ks s.at ≡ true) (i : is_plain ks q.at ≡ true)
-      (f : qualifiers_here (tokens ks ns) (skip s) ≡ (qualifiers_of q, standing q.at s.table)) where
-    one-star : stars_from (tokens ks ns) (suc (left (tokens ks ns) s.at)) 0 [] s ≡ got (qualifiers_of q ∷ [], standing q.at s.table)
+  module _ (b : ℕ) (s : State) {q : Qualifiers} {next : ℕ} (e : is_plain_pointer ks s.at ≡ true) (i : is_plain ks next ≡ true)
+      (f : qualifiers_here (tokens ks ns) (skip s) ≡ (q, standing next s.table)) where
+    one-star : stars_from (tokens ks ns) (suc (left (tokens ks ns) s.at)) 0 [] s ≡ got (q ∷ [], standing next s.table)
     unfolding stars_from one_more_step ◌>>=◌
     one-star =
         let l : left (tokens ks ns) s.at ≡ suc (left (tokens ks ns) s.at - 1) = omega (arith, star-there ks s.at e) in
         eq_yes _ _ _ _ (a-star ks s.at e) ∙ (ap (λ (y : Qualifiers × State). stars_from (tokens ks ns) (left (tokens ks ns) s.at) 0 (y.0 ∷ []) y.1) f
-        ∙ (ap (λ (n : ℕ). stars_from (tokens ks ns) n 0 (qualifiers_of q ∷ []) (standing q.at s.table)) l
-        ∙ no_stars (tokens ks ns) (left (tokens ks ns) s.at - 1) 0 (qualifiers_of q ∷ []) (standing q.at s.table) (name-unlike (a-name ks q.at i))))
+        ∙ (ap (λ (n : ℕ). stars_from (tokens ks ns) n 0 (q ∷ []) (standing next s.table)) l
+        ∙ no_stars (tokens ks ns) (left (tokens ks ns) s.at - 1) 0 (q ∷ []) (standing next s.table) (name-unlike (a-name ks next i))))
 
     typed-pointer : typed_from (levels (tokens ks ns) m room) b s
-        ≡ (apply (pointer_step (qualifiers_of q) ∷ []) b (skip (standing q.at s.table)) >>= λ r. got (r.0, number_at (tokens ks ns) q.at, r.1))
+        ≡ (apply (pointer_step (q) ∷ []) b (skip (standing next s.table)) >>= λ r. got (r.0, number_at (tokens ks ns) next, r.1))
     unfolding typed_from declarator₁ starred ◌>>=◌
-    typed-pointer = rw (a-declarator (tokens ks ns) m {room = room} 0 s (λ z. omega arith), one-star, direct-name 1 (standing q.at s.table) i)
+    typed-pointer = rw (a-declarator (tokens ks ns) m {room = room} 0 s (λ z. omega arith), one-star, direct-name 1 (standing next s.table) i)
 
 -- ---- what the code answers
 
@@ -121,14 +120,14 @@ module _ (ks ns : List ℕ) (m : Model) (room b : ℕ) (c : Cursor) (h : 2 ≤ r
   typed-plain e p k = record { run = λ t g. by (typed-name ks ns m room h b (state c t) e ∙ ap (λ (n : ℕ). got (b, n, skip (state c t))) (sym p.is)) (got-at k g) }
 
   -- a pointer, from what adding it answers
-  module _ (q : Qualified) (e : is_plain_pointer ks c.at ≡ true)
-      (f : (ns : List ℕ) (t : Table) → qualifiers_here (tokens ks ns) (standing (c.at + 1) t) ≡ (qualifiers_of q, standing q.at t)) where
+  module _ {q : Qualifiers} {next : ℕ} (e : is_plain_pointer ks c.at ≡ true)
+      (f : (ns : List ℕ) (t : Table) → qualifiers_here (tokens ks ns) (standing (c.at + 1) t) ≡ (q, standing next t)) where
     made : (t : Table) → typed_from (levels (tokens ks ns) m room) b (state c t)
-        ≡ (apply (pointer_step (qualifiers_of q) ∷ []) b (state (moved_to c (q.at + 1)) t) >>= λ r. got (r.0, number_at (tokens ks ns) q.at, r.1))
-    made t = typed-pointer ks ns m room h b (state c t) e (a-plain ks c.at e q (f [] new_table)) (f ns t)
+        ≡ (apply (pointer_step (q) ∷ []) b (state (moved_to c (next + 1)) t) >>= λ r. got (r.0, number_at (tokens ks ns) next, r.1))
+    made t = typed-pointer ks ns m room h b (state c t) e (a-plain ks c.at e (f [] new_table)) (f ns t)
 
-    module _ {c' : Cursor} {w d w' d' : List ℕ} {v v' : List ℤ} {x : Step} (k : c' ≡ moved_to c (q.at + 1)) (a : Does (apply (pointer_step (qualifiers_of q) ∷ []) b) c' w d v (step x) w' d' v') where
-      pub pointer-done : {e' : Cursor} {type name : ℕ} → x ≡ Done e' type → Peek ns q.at name → Runs both_numbers (typed_from (levels (tokens ks ns) m room) b) c w d v (ok e' (type, name)) w' d' v'
+    module _ {c' : Cursor} {w d w' d' : List ℕ} {v v' : List ℤ} {x : Step} (k : c' ≡ moved_to c (next + 1)) (a : Does (apply (pointer_step (q) ∷ []) b) c' w d v (step x) w' d' v') where
+      pub pointer-done : {e' : Cursor} {type name : ℕ} → x ≡ Done e' type → Peek ns next name → Runs both_numbers (typed_from (levels (tokens ks ns) m room) b) c w d v (ok e' (type, name)) w' d' v'
       pointer-done z p = record { run = λ t g. by (made t) (call _ (step-on k a g) (ap step z) (λ t₁ h₁. rw (sym p.is) (got! h₁))) }
 
       pub pointer-refused : {n p : ℕ} → x ≡ Refused n p → Runs both_numbers (typed_from (levels (tokens ks ns) m room) b) c w d v (bad n p) w' d' v'

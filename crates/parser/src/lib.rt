@@ -23,13 +23,14 @@ use base_types::{base_type, named_type};
 use body_rows::{add_body, define_body};
 use bounds_widths::{Bound, array_bound};
 use declarator_heads::{Declared, is_plain, is_plain_pointer, opens_declarator, stars};
-use declarator_steps::{Steps, bounded, empty, is_full, push, release_stars, unbounded};
+use declarator_steps::Steps;
 use derived_types::{apply, apply_pointer};
 use encoding::names::NO_NAME;
 use encoding::refusals::{
     BAD_TYPE_WORDS, LAYOUT_ATTRIBUTE, LIMIT_PASSED, MEMBER_STORAGE, MISSING_MARK, MISSING_NAME,
     TOO_DEEP,
 };
+use encoding::storage::Storage;
 use encoding::token_kinds::{
     ATTRIBUTE, CLOSE_BRACE, CLOSE_PAREN, COLON, COMMA, ELLIPSIS, END, ENUM_WORD, OPEN_BRACE,
     OPEN_BRACKET, OPEN_PAREN, SEMICOLON, UNION_WORD,
@@ -45,10 +46,7 @@ use skipping::qualifiers_here;
 use specifier_words::{has_base, says_no_type, with_word};
 use table::{Cursor, Move, Step, kind_at};
 use words::classes::{is_name, is_tag_word, is_type_word, is_word};
-use words::qualifiers::Qualifiers;
 use words::specifiers::Specifiers;
-
-const NO_STORAGE: u32 = 0;
 
 // The levels that a name takes: a declarator's, and that of what its stars stand before.
 const NAME_LEVELS: u32 = 2;
@@ -370,8 +368,7 @@ fn member(
     let s = specifiers(kinds, numbers, w, d, v, c, m, room);
     match s {
         Specified::Done(e, p) => {
-            let class = p.storage;
-            if class.number() != NO_STORAGE {
+            if p.storage != Storage::NoStorage {
                 return Move::Refused(MEMBER_STORAGE, at);
             }
             let r = base_type(w, d, v, e, m, p, at);
@@ -522,7 +519,7 @@ fn declarator(
     let Step::Done(_, _) = answer else {
         return r;
     };
-    Declared::new(answer, release_stars(pending, all - used))
+    Declared::new(answer, pending.release_stars(all - used))
 }
 
 // A name, a declarator in parentheses, or nothing; then what follows it.
@@ -608,13 +605,13 @@ fn suffixes(
                 return Declared::new(Step::Done(here, name), t);
             }
         }
-        if is_full(t.len, t.held) {
+        if t.is_full() {
             return Declared::new(Step::Refused(LIMIT_PASSED, at + 1), t);
         }
         let r = suffix(kinds, numbers, w, d, v, here.moved(at + 1), m, kind, room);
         match r {
             Suffix::Done(e, x) => {
-                t = push(t, x);
+                t = t.push(x);
                 here = e;
             }
             Suffix::Refused(k, p) => return Declared::new(Step::Refused(k, p), t),
@@ -644,8 +641,8 @@ fn suffix(
     }
     let b = array_bound(kinds, numbers, w, v, c, room);
     match b {
-        Bound::Of(e, n) => Suffix::Done(e, bounded(n)),
-        Bound::Open(e) => Suffix::Done(e, unbounded()),
+        Bound::Of(e, n) => Suffix::Done(e, declarator_steps::Step::bounded(n)),
+        Bound::Open(e) => Suffix::Done(e, declarator_steps::Step::unbounded()),
         Bound::Refused(k, p) => Suffix::Refused(k, p),
     }
 }
@@ -721,14 +718,8 @@ fn pointer_type(
     ensures { Types (tokens kinds.now numbers.now) b c w.old d.old v.old (typed result) w.new d.new v.new }
 {
     let star = c.at;
-    let q = qualifiers_here(kinds, star + 1);
-    let words = Qualifiers {
-        is_const: q.constant,
-        is_volatile: q.volatile,
-        is_restrict: q.restrict,
-    };
-    let at = q.at;
-    let r = apply_pointer(w, d, v, c.moved(at + 1), words, b);
+    let (q, at) = qualifiers_here(kinds, star + 1);
+    let r = apply_pointer(w, d, v, c.moved(at + 1), q, b);
     match r {
         Step::Done(e, n) => Typed::Done(e, n, name_at(numbers, at)),
         Step::Refused(k, p) => Typed::Refused(k, p),
@@ -759,7 +750,7 @@ pub fn declared_type(
     if is_plain_pointer(kinds, at) & (NAME_LEVELS <= room) {
         return pointer_type(kinds, numbers, w, d, v, c, b);
     }
-    let t = declarator(kinds, numbers, w, d, v, c, m, empty(), room);
+    let t = declarator(kinds, numbers, w, d, v, c, m, Steps::empty(), room);
     let answer = t.answer;
     let pending = t.steps;
     match answer {

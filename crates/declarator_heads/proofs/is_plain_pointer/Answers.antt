@@ -14,4 +14,4 @@ pub overflow_add-at : goal.overflow_add-at
 overflow_add-at c = omega (arith, there c.kind_at.ensures c.if-kind_at-ne-STAR.false)
 
 pub returns : goal.returns
-returns c = c.is_plain.ensures ∙ sym (by_name c.kind_at.ensures c.if-kind_at-ne-STAR.false (c.qualifiers_here-q.ensures [] new_table))
+returns c = c.is_plain.ensures ∙ sym (by_name c.kind_at.ensures c.if-kind_at-ne-STAR.false (c.qualifiers_here-next.ensures [] new_table))

@@ -8,9 +8,9 @@ use Rattle.definition.specs.Specifier.{builtin}
 use Rattle.named_rows.specs.Finds.{found}
 use Rattle.model.specs.Meaning.{model}
 use Rattle.words.specs.Meaning.{known}
-use Rattle.words.proofs.Uses.{a-row, no_row}
+use Rattle.std.specs.Prelude.{is_some}
 use Rattle.table.proofs.Steps.{there}
-use Rattle.declarator_heads.proofs.Opens.{of-kind, no_kind, shut, by-star, by_paren, no_name_lem, of-typedef, of-builtin, of_none}
+use Rattle.declarator_heads.proofs.Opens.{of-kind, no_kind, shut, by-star, by_paren, no_name_lem, of-typedef, of-known}
 use Rattle.declarator_heads.proofs.opens_declarator.Goals as goal
 
 pub returns-then-kind_at-ne-OPEN_PAREN : goal.returns-then-kind_at-ne-OPEN_PAREN
@@ -40,16 +40,9 @@ returns-in-At c = record {
       (ap (λ z. typedef_row t z) (sym c.name_at.ensures.is) ∙ (sym (c.typedef_row-f.ensures.of t w x h) ∙ ap found c.in-At.is)));
 }
 
-pub returns-in-Row : goal.returns-in-Row
-returns-in-Row c = record {
-  of = λ t w x h. sym (of-builtin _ _ _ (of-kind c.kind_at.ensures c.if-kind_at-ne-OPEN_PAREN.false) (no_kind c.kind_at-kind.ensures c.if-kind-eq-STAR.false) (no_kind c.kind_at-kind.ensures c.if-kind-eq-OPEN_PAREN.false) (ap is_name (sym c.kind_at-kind.ensures.is) ∙ (sym c.is_name.ensures ∙ not-false _ c.if-not-is_name.false-raw))
+pub returns : goal.returns
+returns c = record {
+  of = λ t w x h. of-known _ _ _ (of-kind c.kind_at.ensures c.if-kind_at-ne-OPEN_PAREN.false) (no_kind c.kind_at-kind.ensures c.if-kind-eq-STAR.false) (no_kind c.kind_at-kind.ensures c.if-kind-eq-OPEN_PAREN.false) (ap is_name (sym c.kind_at-kind.ensures.is) ∙ (sym c.is_name.ensures ∙ not-false _ c.if-not-is_name.false-raw))
       (ap (λ z. typedef_row t z) (sym c.name_at.ensures.is) ∙ (sym (c.typedef_row-f.ensures.of t w x h) ∙ ap found c.in_default.is))
-      (a-row _ (sym c.in-Row.is ∙ (c.builtin-k.ensures ∙ ap (λ z. known (builtin (model c.args.m) z)) c.kind_at-kind.ensures.is))).there);
-}
-
-pub returns-in-Nothing : goal.returns-in-Nothing
-returns-in-Nothing c = record {
-  of = λ t w x h. sym (of_none _ _ _ (of-kind c.kind_at.ensures c.if-kind_at-ne-OPEN_PAREN.false) (no_kind c.kind_at-kind.ensures c.if-kind-eq-STAR.false) (no_kind c.kind_at-kind.ensures c.if-kind-eq-OPEN_PAREN.false) (ap is_name (sym c.kind_at-kind.ensures.is) ∙ (sym c.is_name.ensures ∙ not-false _ c.if-not-is_name.false-raw))
-      (ap (λ z. typedef_row t z) (sym c.name_at.ensures.is) ∙ (sym (c.typedef_row-f.ensures.of t w x h) ∙ ap found c.in_default.is))
-      (no_row _ (sym c.in-Nothing.is ∙ (c.builtin-k.ensures ∙ ap (λ z. known (builtin (model c.args.m) z)) c.kind_at-kind.ensures.is))));
+      (ap is_some (sym (c.builtin.ensures ∙ ap (λ z. known (builtin (model c.args.m) z)) c.kind_at-kind.ensures.is)) ∙ c.is_none.ensures);
 }

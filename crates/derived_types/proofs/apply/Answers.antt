@@ -32,11 +32,11 @@ pub shape_of-v-in_default : goal.shape_of-v-in_default
 shape_of-v-in_default c = c.apply_step-r.auto.v ∙ c.loop-i.invariant.5
 
 pub returns-in_default : goal.returns-in_default
-returns-in_default c = record { run = λ t h. round (c.loop-i.invariant.0 t h) c.loop-i-test.true c.shape_of-x.ensures c.step_at.ensures.means (λ t₁ h₁. fail _ (c.apply_step-r.ensures.run t₁ h₁) (ap step c.in_default.is)) }
+returns-in_default c = record { run = λ t h. round (c.loop-i.invariant.0 t h) c.loop-i-test.true c.shape-x.ensures c.step_at.ensures.means (λ t₁ h₁. fail _ (c.apply_step-r.ensures.run t₁ h₁) (ap step c.in_default.is)) }
 
 pub loop-i-preserved : goal.loop-i-preserved
 loop-i-preserved c = (
-  λ t h. round (c.loop-i.invariant.0 t h) c.loop-i-test.true c.shape_of-x.ensures c.step_at.ensures.means (λ t₁ h₁. call _ (c.apply_step-r.ensures.run t₁ h₁) (ap step c.in-Done.is) (λ t₂ h₂. applies h₂)),
+  λ t h. round (c.loop-i.invariant.0 t h) c.loop-i-test.true c.shape-x.ensures c.step_at.ensures.means (λ t₁ h₁. call _ (c.apply_step-r.ensures.run t₁ h₁) (ap step c.in-Done.is) (λ t₂ h₂. applies h₂)),
   held_on c.apply_step-r.ensures c.loop-i.invariant.1 (ap step c.in-Done.is),
   omega (arith, c.loop-i.invariant.2),
   c.apply_step-r.auto.w ∙ c.loop-i.invariant.3,

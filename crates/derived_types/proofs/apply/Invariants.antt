@@ -14,7 +14,7 @@ use Rattle.derived_types.proofs.Derived.{Applying, applies, round, finished}
 use Rattle.derived_types.proofs.apply.Given as goal
 
 abbrev pub invariant-loop-i : goal.invariant-loop-i
-invariant-loop-i l = ((t : Table) → Encodes t l.initial.here l.initial.w l.initial.d l.initial.v → Ends (Applying l.kinds l.operands l.i l.here l.row l.w l.d l.v) (apply (steps_from l.kinds l.operands l.initial.i) l.initial.row (state l.initial.here t)))
+invariant-loop-i l = ((t : Table) → Encodes t l.initial.here l.initial.w l.initial.d l.initial.v → Ends (Applying l.s.kinds l.s.operands l.i l.here l.row l.w l.d l.v) (apply (steps_from l.s.kinds l.s.operands l.initial.i) l.initial.row (state l.initial.here t)))
     × Held l.here l.w l.d l.v × (l.i ≤ 256) × (length l.w ≡ length l.initial.w) × (length l.d ≡ length l.initial.d) × (length l.v ≡ length l.initial.v)
 
 abbrev pub decreases-loop-i : goal.decreases-loop-i
