@@ -1,5 +1,5 @@
 -- What the code's layout means.
-use Rattle.std.specs.Prelude.{◌≡◌, List, ◌++◌, Bool, ◌&&◌, ℕ, ℤ, length, take, drop}
+use Rattle.std.specs.Prelude.{◌≡◌, List, ◌++◌, Bool, ◌&&◌, ℕ, ℤ, length, take, drop, Result, Ok, Err}
 use Rattle.definition.specs.Answer.{Answer, got, refused, ◌>>=◌}
 use Rattle.definition.specs.Model.{Model as MeantModel}
 use Rattle.definition.specs.Table.{Table, Member, row_at, mark_of, with_members}
@@ -7,48 +7,43 @@ use Rattle.definition.specs.Types.{resolve}
 use Rattle.definition.specs.Size.{size_of}
 use Rattle.definition.specs.Layout.{Laid as MeantLaid, empty_body, located, is_unsized, member_size, is_last, placed, placed_all}
 use Rattle.table.specs.Held.{InWords, Encodes, Left, member_at}
-use Rattle.table.specs.Reply.{Reply, ok, bad}
+use Rattle.encoding.specs.Refusals.{number_of}
+use Rattle.encoding.specs.declared.refusals.Reason.{Reason}
+use Rattle.encoding.specs.declared.refusals.Refusal.{Refusal}
+use Rattle.table.specs.Reply.{Reply, ok, bad, replied}
 use Rattle.table.specs.declared.Cursor.{Cursor}
 use Rattle.model.specs.declared.Model.{Model}
 use Rattle.model.specs.Meaning.{model}
 use Rattle.size_align.specs.Measure.{Extents}
 use Rattle.layout_arithmetic.specs.declared.Laid.{Laid}
+use Rattle.layout_arithmetic.specs.declared.Placed.{Placed}
 use Rattle.layout_arithmetic.specs.Outcome.{laid_of}
-use Rattle.layout.specs.declared.Bytes.{Bytes}
-use Rattle.layout.specs.declared.Bytes.TheVariants as bytess
-use Rattle.layout.specs.declared.Place.{Place}
-use Rattle.layout.specs.declared.Place.TheVariants as places
-use Rattle.layout.specs.declared.Placing.{Placing}
-use Rattle.layout.specs.declared.Placing.TheVariants as placings
-use Rattle.layout.specs.declared.Laying.{Laying}
-use Rattle.layout.specs.declared.Laying.TheVariants as layouts
 
 -- a member's size, or the refusal at its place
-abbrev pub bytes : Bytes → ℕ → Answer ℕ
-bytes (bytess.Number n) at = got n
-bytes (bytess.Refused k) at = refused k at
+abbrev pub bytes : Result ℕ Reason → ℕ → Answer ℕ
+bytes (Ok n) at = got n
+bytes (Err r) at = refused (number_of r) at
 
 -- a member where it stands, and what has been laid out with it
-abbrev pub place : Place → Member → Answer (Member × MeantLaid)
-place (places.At offset bit l) e = got (located e offset bit, laid_of l)
-place (places.Refused k) e = refused k e.offset
+abbrev pub place : Result Placed Reason → Member → Answer (Member × MeantLaid)
+place (Ok p) e = got (located e p.offset p.bit, laid_of p.laid)
+place (Err r) e = refused (number_of r) e.offset
 
-abbrev pub placing : Cursor → Placing → Reply MeantLaid
-placing c (placings.Done l) = ok c (laid_of l)
-placing c (placings.Refused n p) = bad n p
+-- what the members take, and the body's size: the cursor stays
+abbrev pub placing : Cursor → Result Laid Refusal → Reply MeantLaid
+placing c = replied (λ l. ok c (laid_of l))
 
-abbrev pub sized : Cursor → Laying → Reply ℕ
-sized c (layouts.Size n) = ok c n
-sized c (layouts.Refused n p) = bad n p
+abbrev pub sized : Cursor → Result ℕ Refusal → Reply ℕ
+sized c = replied (λ n. ok c n)
 
 -- No entry from number i on carries the mark.
 pub record LastIs (mark members i : ℕ) (w : List ℕ) (r : Bool) : Type 0 where
   pub of : (m : MeantModel) (t : Table) (union : Bool) → InWords t w → members ≡ length t.members → r ≡ is_last m t union mark (drop i t.members)
 
-pub record BytesAre (m : Model) (type : ℕ) (last : Bool) (w d : List ℕ) (r : Bytes) : Type 0 where
+pub record BytesAre (m : Model) (type : ℕ) (last : Bool) (w d : List ℕ) (r : Result ℕ Reason) : Type 0 where
   pub of : (t : Table) → InWords t w → Extents t d → (at : ℕ) → bytes r at ≡ member_size (size_of (model m) t type) (last && is_unsized (row_at t (resolve t type))) at
 
-pub record PlaceIs (m : Model) (members : ℕ) (union last : Bool) (i : ℕ) (l : Laid) (w d : List ℕ) (r : Place) : Type 0 where
+pub record PlaceIs (m : Model) (members : ℕ) (union last : Bool) (i : ℕ) (l : Laid) (w d : List ℕ) (r : Result Placed Reason) : Type 0 where
   pub of : (t : Table) → InWords t w → Extents t d → members ≡ length t.members → place r (member_at t i) ≡ placed (model m) t union last (member_at t i) (laid_of l)
 
 -- what the members of a body take, and all entries with those of the body at their places

@@ -6,7 +6,9 @@ ghost use Rattle.definition.specs.Table.{Member, Table};
 ghost use Rattle.definition.specs.Model.{Model};
 ghost use Rattle.definition.specs.Types.{width_number};
 ghost use Rattle.definition.specs.Layout.{empty_body, round_up, within, advanced, located, plain_member, zero_field, field_at, bit_field, in_struct, in_union, bytes_taken, record_size};
-ghost use Rattle.layout_arithmetic.specs.Outcome.{laid_of, none_laid, exact, placed, sized};
+ghost use Rattle.layout_arithmetic.specs.Outcome.{reason_of, laid_of, none_laid, exact, placed, sized};
+
+use encoding::refusals::Reason;
 
 const BYTE: u64 = 8;
 // How many bytes have a bit count that passes u64::MAX.
@@ -35,6 +37,17 @@ pub struct Placed {
 pub enum SizeError {
     TooLarge,
     Overflow,
+}
+
+impl From<SizeError> for Reason {
+    ghost from_gives = { λ error reason. reason ≡ reason_of error };
+
+    fn from(error: SizeError) -> Reason {
+        match error {
+            SizeError::TooLarge => Reason::RecordTooLarge,
+            SizeError::Overflow => Reason::LayoutOverflow,
+        }
+    }
 }
 
 pub fn empty() -> Laid

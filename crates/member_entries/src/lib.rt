@@ -16,7 +16,7 @@ use bounds_widths::bit_width;
 use encoding::names::NO_NAME;
 use encoding::refusals::MISSING_NAME;
 use fields::push_field;
-use layout::{Laying, layout};
+use layout::layout;
 use model::Model;
 use open_lists::{field_count, fields_only};
 use table::{Cursor, Move, Step};
@@ -73,11 +73,11 @@ pub fn close_body(
 {
     let l = layout(m, w, d, c, union, first, at);
     match l {
-        Laying::Size(size) => {
+        Ok(size) => {
             fields_only(w, c, first);
             let count = field_count(w, c, first);
             Laid::Body(c, size, first, count)
         }
-        Laying::Refused(n, p) => Laid::Refused(n, p),
+        Err(e) => Laid::Refused(u32::from(e.reason), e.at),
     }
 }

@@ -17,9 +17,6 @@ loop-k-init c = λ m t u h e. refl
 pub returns-then-member_row-mark : goal.returns-then-member_row-mark
 returns-then-member_row-mark c = record { of = λ m t u h e. last_not m t u c.args.mark t.members c.loop-k.k (omega (arith, c.loop-k-test.true, e)) (c.member_row.ensures.of t h) c.if-member_row-mark.true ∙ sym (c.loop-k.invariant m t u h e) }
 
-pub overflow_add-k : goal.overflow_add-k
-overflow_add-k c = omega (arith, c.loop-k-test.true)
-
 pub loop-k-preserved : goal.loop-k-preserved
 loop-k-preserved c = λ m t u h e. c.loop-k.invariant m t u h e ∙ last_on m t u c.args.mark t.members c.loop-k.k (omega (arith, c.loop-k-test.true, e)) (c.member_row.ensures.of t h) c.if-member_row-mark.false
 

@@ -13,6 +13,3 @@ use Rattle.layout.proofs.is_last.Given as goal
 
 abbrev pub invariant-loop-k : goal.invariant-loop-k
 invariant-loop-k l = (m : Model) (t : Table) (u : Bool) → InWords t l.w → l.members ≡ length t.members → is_last m t u l.mark (drop l.i t.members) ≡ is_last m t u l.mark (drop l.k t.members)
-
-abbrev pub decreases-loop-k : goal.decreases-loop-k
-decreases-loop-k l = l.members - l.k

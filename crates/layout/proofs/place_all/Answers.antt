@@ -7,6 +7,7 @@ use lib.IntN.{ℤ}
 use lib.ListN.{length}
 use Rattle.definition.specs.Table.{Table, mark_of}
 use Rattle.table.specs.Held.{Encodes, member_at}
+use Rattle.encoding.specs.Refusals.{number_of}
 use Rattle.table.specs.Reply.{bad}
 use Rattle.table.proofs.Shown.{left}
 use Rattle.model.specs.Meaning.{model}
@@ -24,38 +25,23 @@ pub loop-i-preserved-then-member_row-mark : goal.loop-i-preserved-then-member_ro
 unfolding mark_of
 loop-i-preserved-then-member_row-mark c = (λ t v h. passes (c.loop-i.invariant.0 t v h) (omega (arith, c.loop-i-test.true, h.counts.members)) (c.member_row.ensures.of t h.words) c.if-member_row-mark.true, c.loop-i.invariant.1)
 
-pub overflow_add-i-in-loop-i : goal.overflow_add-i-in-loop-i
-overflow_add-i-in-loop-i c = omega (arith, c.loop-i-test.true, c.requires.1.members)
-
-pub shape_of-d-in-Refused : goal.shape_of-d-in-Refused
-shape_of-d-in-Refused c = c.loop-i.invariant.1
-
-pub returns-in-Refused : goal.returns-in-Refused
+pub returns-in-Err : goal.returns-in-Err
 unfolding mark_of
-returns-in-Refused c = record {
-  of = λ t v h. stop _ _ (stopped (c.loop-i.invariant.0 t v h) (omega (arith, c.loop-i-test.true, h.counts.members)) (c.member_row.ensures.of t h.words) c.if-member_row-mark.false (c.is_last-last.ensures.of _ t _ h.words h.counts.members) (sym (ap (λ z. place z (member_at t c.loop-i.i)) c.in-Refused.is) ∙ c.place_member-p.ensures.of t h.words (record { table = _; holds = (c.loop-i.invariant.0 t v h).holds.wides; rows = refl }) h.counts.members))
-      (ap (λ z. bad c.in-Refused.n z) (c.member_offset.ensures.of _ (c.loop-i.invariant.0 t v h).holds.wides ∙ ap (λ e. e.offset) (untouched (c.loop-i.invariant.0 t v h) (omega (arith, c.loop-i-test.true, h.counts.members)))))
+returns-in-Err c = record {
+  of = λ t v h. stop _ _ (stopped (c.loop-i.invariant.0 t v h) (omega (arith, c.loop-i-test.true, h.counts.members)) (c.member_row.ensures.of t h.words) c.if-member_row-mark.false (c.is_last-last.ensures.of _ t _ h.words h.counts.members) (sym (ap (λ z. place z (member_at t c.loop-i.i)) c.in-Err.is) ∙ c.place_member-p.ensures.of t h.words (record { table = _; holds = (c.loop-i.invariant.0 t v h).holds.wides; rows = refl }) h.counts.members))
+      (ap (λ z. bad (number_of c.in-Err.reason) z) (c.member_offset.ensures.of _ (c.loop-i.invariant.0 t v h).holds.wides ∙ ap (λ e. e.offset) (untouched (c.loop-i.invariant.0 t v h) (omega (arith, c.loop-i-test.true, h.counts.members)))))
       (left (c.loop-i.invariant.0 t v h).holds);
 }
 
 pub set_member_place-requires : goal.set_member_place-requires
 set_member_place-requires c = (c.loop-i.invariant.1 ∙ c.requires.0, c.requires.1)
 
-pub overflow_add-i-in-At : goal.overflow_add-i-in-At
-overflow_add-i-in-At c = omega (arith, c.loop-i-test.true, c.requires.1.members)
-
-pub loop-i-smaller : goal.loop-i-smaller
-loop-i-smaller c = omega (arith, c.loop-i-test.true)
-
 pub loop-i-preserved : goal.loop-i-preserved
 unfolding mark_of
 loop-i-preserved c = (
-  λ t v h. puts (c.loop-i.invariant.0 t v h) (omega (arith, c.loop-i-test.true, h.counts.members)) (c.member_row.ensures.of t h.words) c.if-member_row-mark.false (c.is_last-last.ensures.of _ t _ h.words h.counts.members) (sym (ap (λ z. place z (member_at t c.loop-i.i)) c.in-At.is) ∙ c.place_member-p.ensures.of t h.words (record { table = _; holds = (c.loop-i.invariant.0 t v h).holds.wides; rows = refl }) h.counts.members) c.set_member_place.ensures,
+  λ t v h. puts (c.loop-i.invariant.0 t v h) (omega (arith, c.loop-i-test.true, h.counts.members)) (c.member_row.ensures.of t h.words) c.if-member_row-mark.false (c.is_last-last.ensures.of _ t _ h.words h.counts.members) (sym (ap (λ z. place z (member_at t c.loop-i.i)) c.in-Ok.is) ∙ c.place_member-p.ensures.of t h.words (record { table = _; holds = (c.loop-i.invariant.0 t v h).holds.wides; rows = refl }) h.counts.members) c.set_member_place.ensures,
   c.set_member_place.auto.d ∙ c.loop-i.invariant.1,
 )
-
-pub shape_of-d : goal.shape_of-d
-shape_of-d c = c.loop-i.invariant.1
 
 pub returns : goal.returns
 returns c = record { of = λ t v h. finished (c.loop-i.invariant.0 t v h) (omega (arith, c.loop-i-test.false, h.counts.members)) }

@@ -17,6 +17,3 @@ use Rattle.layout.proofs.place_all.Given as goal
 
 abbrev pub invariant-loop-i : goal.invariant-loop-i
 invariant-loop-i l = ((t : Table) (v : List ℤ) → Encodes t l.c l.w l.initial.d v → Going (model l.m) t l.union (mark_of l.first) l.c l.w l.d v l.i (laid_of l.l) (placed_from (model l.m) t l.union l.first)) × (length l.d ≡ length l.initial.d)
-
-abbrev pub decreases-loop-i : goal.decreases-loop-i
-decreases-loop-i l = l.members - l.i
