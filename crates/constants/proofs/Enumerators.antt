@@ -3,11 +3,10 @@ use mathlib.Core.Path.{◌≡◌, refl, sym, ap, ◌∙◌, fun_ext}
 use mathlib.Core.Bool.{Bool, true, false}
 use mathlib.Core.List.{List, [], ◌∷◌, ◌++◌}
 use mathlib.Core.Option.{Option, none, some}
-use Prim.Native.Nat.{ℕ, zero, suc, ◌+◌, ◌-◌, ◌*◌, ◌≤◌, ◌<◌}
-use native.Mathlib.Nat.{le_refl}
+use Prim.Native.Nat.{ℕ, zero, suc, ◌+◌, ◌-◌, ◌*◌, ◌≤◌, ◌<◌, min}
 use native.Mathlib.Omega.{arith}
-use lib.Dec.{eqb, leb}
-use borrow.Author.Tests.{ne_eqb, leb-false}
+use lib.Dec.{eqb}
+use borrow.Author.Tests.{ne_eqb}
 use lib.IntN.{ℤ}
 use lib.ListN.{length, take, get_or}
 use lib.Seq.{take-suc, take-length}
@@ -20,15 +19,16 @@ use Rattle.definition.specs.Lent.{signeds}
 use Rattle.definition.specs.Region.{value_columns, values_at, names_at}
 use Rattle.table.specs.declared.Cursor.{Cursor}
 use Rattle.table.specs.Held.{reading_words, value_slot, no_value, Fits, InWords, Indexed, Encodes, state, moved_to}
-use Rattle.table.specs.Reply.{Shows, both, ok, bad}
+use Rattle.table.specs.Reply.{Shows, both, ok}
 use Rattle.table.proofs.Branch.{via, halt}
 use Rattle.table.proofs.Shown.{got-at, no! }
 use Rattle.table.proofs.Regions.{value-word, value_signed}
 use Rattle.table.proofs.Index.{rest-get}
-use Rattle.constants.specs.declared.Place.{Place}
-use Rattle.constants.specs.declared.Reading.{Reading}
-use Rattle.constants.specs.declared.Reading.TheVariants.{Value as Reading-as-Value, Refused}
-use Rattle.constants.specs.Reading.{read}
+use Rattle.std.specs.Prelude.{Result, Ok, Err, IsErrAnd}
+use Rattle.definition.specs.Answer.{Answer, got, refused}
+use Rattle.encoding.specs.Refusals.{number_of}
+use Rattle.encoding.specs.declared.refusals.Refusal.{Refusal}
+use Rattle.constants.specs.Here.{evaluated}
 use Rattle.constants.specs.Lookup.{last_value, bound_in, known_value}
 
 abbrev either : {A : Type 0} → Bool → A → A → A
@@ -81,16 +81,10 @@ module _ (t : Table) (f : Fits t) where
         found_so rest k name p ∙ (sym (climb name k (length t.values - k) (omega arith) q)
         ∙ (ap (λ (j : ℕ). value_named name (take j t.values)) e ∙ ap (value_named name) (take-length t.values)))
 
-    found-by : (b : Bool) → leb (length t.values) (bound_in (reading_words t rest) name) ≡ b
-        → last_value (reading_words t rest) (signeds t) (either b (length t.values) (bound_in (reading_words t rest) name)) name ≡ value_named name t.values
-    found-by true e = up (length t.values) (le_refl _) (λ i p q s. omega arith)
-    found-by false e =
-        let l : bound_in (reading_words t rest) name < length t.values = leb-false _ _ e in
-        up (bound_in (reading_words t rest) name) (omega arith) (λ i p q s. let u = x.values i p in let z = ap (λ (m : ℕ). get_or rest (value_slot m) 0) s in omega (arith, bound-is))
-
     found_all : known_value (reading_words t rest) (signeds t) (length t.values) name ≡ value_named name t.values
     unfolding known_value
-    found_all = found-by (leb (length t.values) (bound_in (reading_words t rest) name)) refl
+    found_all = up (min (length t.values) (bound_in (reading_words t rest) name)) (omega arith) (λ i p q s.
+        let u = x.values i p in let z = ap (λ (m : ℕ). get_or rest (value_slot m) 0) s in let y = bound-is in omega arith)
 
 -- the enumerators of the table that the slices hold
 pub knows : {t : Table} {c : Cursor} {w d : List ℕ} {v : List ℤ} → Encodes t c w d v → known_value w v c.values ≡ λ n. value_named n t.values
@@ -100,14 +94,15 @@ knows {t} {c} {w} {d} {v} h =
     a ∙ fun_ext (λ n. found_all t h.words.fits h.words.rest (record { fits = h.words.fits; rest = h.words.rest; long = h.words.long; are = refl }) refl h.index n)
 
 -- an answer where the cursor stands
-module _ (ts : Tokens) {t : Table} {c : Cursor} {w d : List ℕ} {v : List ℤ} (h : Encodes t c w d v) (r : Reading) (e : read r ≡ constant ts (known_value w v c.values) c.at) where
-  says : read r ≡ constant ts (λ n. value_named n t.values) c.at
+module _ (ts : Tokens) {t : Table} {c : Cursor} {w d : List ℕ} {v : List ℤ} (h : Encodes t c w d v) {a : Answer (ℤ × ℕ)} (e : a ≡ constant ts (known_value w v c.values) c.at) where
+  says : a ≡ constant ts (λ n. value_named n t.values) c.at
   says = e ∙ ap (λ k. constant ts k c.at) (knows h)
 
-  pub refused-here : {n p : ℕ} → r ≡ Refused n p → Shows both (constant_here ts (state c t)) (bad n p) w d v
-  unfolding constant_here read
-  refused-here q = halt _ (sym says ∙ ap read q) (no! h refl)
+  pub refused-here : (r : Result (Cursor × ℤ) Refusal) (x : Refusal) → a ≡ refused (number_of x.reason) x.at → IsErrAnd r (λ y. y ≡ x) → Shows both (constant_here ts (state c t)) (evaluated r) w d v
+  unfolding constant_here
+  refused-here (Ok p) x q f = absurd f
+  refused-here (Err y) x q f = rw f (halt _ (sym says ∙ q) (no! h refl))
 
-  pub done-here : {p : Place} {z : ℤ} {m : Cursor} → r ≡ Reading-as-Value p z → m ≡ moved_to c p.at → Shows both (constant_here ts (state c t)) (ok m z) w d v
-  unfolding constant_here read
-  done-here q g = via _ (sym says ∙ ap read q) (got-at g h)
+  pub done-here : {i : ℕ} {z : ℤ} {m : Cursor} → a ≡ got (z, i) → m ≡ moved_to c i → Shows both (constant_here ts (state c t)) (ok m z) w d v
+  unfolding constant_here
+  done-here q g = via _ (sym says ∙ q) (got-at g h)

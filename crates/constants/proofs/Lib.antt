@@ -1,4 +1,5 @@
 pub mod Search
+pub mod Told
 pub mod Steps
 pub mod Rounds
 pub mod Enumerators

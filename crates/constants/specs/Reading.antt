@@ -1,31 +1,29 @@
 -- What the readers of constants answer, and over which tokens.
-use Rattle.std.specs.Prelude.{◌≡◌, List, ℕ, ℤ}
+use Rattle.std.specs.Prelude.{◌≡◌, List, ℕ, ℤ, Result}
 use Rattle.std.proofs.Math.Option.{Option}
-use Rattle.definition.specs.Answer.{Answer, got, refused, ◌>>=◌}
 use Rattle.definition.specs.Token.{Tokens}
 use Rattle.definition.specs.Constant.{Readers, primary}
-use Rattle.arithmetic.specs.declared.Number.{Number}
-use Rattle.arithmetic.specs.Outcome.{answer}
-use Rattle.constants.specs.declared.Reading.{Reading}
-use Rattle.constants.specs.declared.Reading.TheVariants.{Value, Refused}
-
--- a value with the index of the token after it, or a refusal's number and place
-unfoldable pub read : Reading → Answer (ℤ × ℕ)
-read (Value c z) = got (z, c.at)
-read (Refused n at) = refused n at
+use Rattle.encoding.specs.Refusals.{answer_by}
+use Rattle.encoding.specs.declared.refusals.Refusal.{Refusal}
+use Rattle.constants.specs.Lookup.{known_value}
+use Rattle.constants.specs.declared.Place.{Place}
+use Rattle.constants.specs.declared.Source.{Source}
 
 -- a value, with the index of the token after it
-unfoldable pub followed : Answer ℤ → ℕ → Answer (ℤ × ℕ)
-followed a next = a >>= λ v. got (v, next)
-
--- the answer r is the number's value and the place's index, or its refusal at an index
-pub record Settles (n : Number) (next at : ℕ) (r : Reading) : Type 0 where
-  pub is : read r ≡ followed (answer n at) next
+abbrev pub with_place : Place × ℤ → ℤ × ℕ
+with_place p = (p.1, p.0.at)
 
 -- the columns of tokens
 abbrev pub tokens : List ℕ → List ℕ → Tokens
 tokens ks ns = record { kinds = ks; numbers = ns }
 
+abbrev pub tokens_of : Source → Tokens
+tokens_of s = tokens s.kinds.now s.numbers.now
+
+-- the value of a name
+abbrev pub known_to : Source → ℕ → Option ℤ
+known_to s = known_value s.words.now s.values.now s.count
+
 -- the answer r is a literal's or a name's; the readers of deeper levels do not bear on it
-pub record ReadsPrimary (ts : Tokens) (known : ℕ → Option ℤ) (at : ℕ) (r : Reading) : Type 0 where
-  pub is : (next : Readers) → read r ≡ primary ts known next at
+pub record ReadsPrimary (ts : Tokens) (known : ℕ → Option ℤ) (at : ℕ) (r : Result (Place × ℤ) Refusal) : Type 0 where
+  pub is : (next : Readers) → answer_by with_place r ≡ primary ts known next at

@@ -1,10 +1,15 @@
-use borrow.Author.Rules.{sfits_of}
+use borrow.Author.Rules.{rules}
+use mathlib.Core.Path.{refl}
+use mir.Syntax.{w64}
+use mir.Val.{SFits}
 use Rattle.arithmetic.proofs.Told.{back}
 use Rattle.constants.proofs.Enumerators.{refused-here, done-here}
 use Rattle.constants.proofs.constant_here.Goals as goal
 
-pub returns-in-Refused : goal.returns-in-Refused
-returns-in-Refused c = record { of = λ d. record { run = λ t h. refused-here _ h _ c.constant_at-r.ensures c.in-Refused.is } }
+pub returns-in_err-t : goal.returns-in_err-t
+returns-in_err-t c = record { of = λ d. record { run = λ t h. refused-here _ h c.in_err-t.ensures _ _ refl c.from_residual.ensures.1 } }
 
-pub returns-in-Value : goal.returns-in-Value
-returns-in-Value c = record { of = λ d. record { run = λ t h. rw (back (sfits_of c.in-Value.known_told-in-Value-1-own.given.1.0.1)) (done-here _ h _ c.constant_at-r.ensures c.in-Value.is c.moved.ensures) } }
+pub returns : goal.returns
+returns c =
+    let f : SFits w64 c.in_ok-t.z = search rules in
+    rw (back f) (record { of = λ d. record { run = λ t h. done-here _ h c.in_ok-t.ensures refl c.moved.ensures } })
