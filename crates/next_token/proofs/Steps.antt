@@ -1,237 +1,133 @@
--- Each branch of a step of the cutting. Assumes nothing.
+-- Each step of the cutting. Assumes nothing.
 use mathlib.Core.Path.{◌≡◌, refl, sym, ap, ◌∙◌}
 use mathlib.Core.Bool.{Bool, true, false, ◌&&◌, not}
 use mathlib.Core.List.{List, [], ◌∷◌}
-use mathlib.Mathlib.Data.Bool.Basic.{and_intro, or_inl, and_elim_left, and_elim_right}
+use mathlib.Mathlib.Data.Bool.Basic.{or_inl, and_elim_left, and_elim_right}
 use Prim.Native.Nat.{ℕ, zero, ◌+◌, ◌-◌, ◌≤◌, ◌<◌}
 use native.Mathlib.Omega.{arith}
-use borrow.Author.Tests.{eq-eqb, ltb-true}
+use borrow.Author.Tests.{eq-eqb, ltb-true, eqb-true}
 use lib.Dec.{eqb, leb, ltb}
 use lib.ListN.{length, take, length-drop}
 use lib.Seq.{length-take-le}
-use Rattle.definition.specs.Answer.{got, refused}
+use Rattle.definition.specs.Answer.{Answer, got, refused, ◌>>=◌}
 use Rattle.definition.specs.Text.{Bytes, byte_at}
 use Rattle.definition.specs.Kind.{is_name}
-use Rattle.definition.specs.Class.{class_of, is_word_byte, is_blank}
-use Rattle.definition.specs.Scan.{from, first, begins, before}
-use Rattle.definition.specs.Comment.{joins, opens_line_comment, opens_comment, line_length, ends_comment, comment_end, after_comment}
-use Rattle.definition.specs.Directive.{directive, is_macro, ends_word}
+use Rattle.definition.specs.Class.{class_of, is_word_byte}
+use Rattle.definition.specs.Scan.{from, first, second, begins, before}
+use Rattle.definition.specs.Comment.{ends_line, line_length}
+use Rattle.definition.specs.Directive.{ends_word}
 use Rattle.definition.specs.Attribute.{Attribute, not_blank, in_parens, parenthesized, attribute_at}
 use Rattle.definition.specs.Number.{is_number_byte, ends_number, number_value}
-use Rattle.definition.specs.Character.{character_at}
-use Rattle.definition.specs.Quoted.{in_quotes, after_string}
 use Rattle.definition.specs.Mark.{Mark, Written, pair, one_byte_marks, two_byte_marks, mark_among, mark_at, mark_of, short_mark}
 use Rattle.definition.specs.Word.{kind_of}
-use Rattle.definition.specs.Token.{Token}
-use Rattle.definition.specs.Spelling.{Spelling}
-use Rattle.definition.specs.Cut.{Cutting, skip_to, new_line, drop_to, push, push_name, push_attribute, cut_word_of, word_at, cut_word, number_word, cut_number, cut_character, cut_string, cut_mark, cut_token, cut_directive, cut_comment, cut_other, cut_next}
+use Rattle.definition.specs.Cut.{Cutting, push, push_name, cut_word_of, word_at, cut_word, number_word, cut_number}
 use Rattle.definition_laws.proofs.LexerProgress.{first-from, before_le}
 use Rattle.definition_laws.proofs.NameKinds.{name-above}
-use Rattle.definition_laws.proofs.Same.{then-got, then-refused}
-use Rattle.lemmas.proofs.Branch.{yes, nay, eq_yes, eq_no, le_yes, le_no}
-use Rattle.scan.proofs.Going.{going}
+use Rattle.lemmas.proofs.Branch.{yes, nay, eq_yes, eq_no}
+use Rattle.scan.proofs.Going.{going, begins-inside}
 use Rattle.next_token.specs.Pieces.{Starts, cut_attribute}
 
+-- what follows an answer
+module _ {A B : Type 0} (a : Answer A) (f : A → Answer B) where
+  pub got_then : (x : A) → got x ≡ a → f x ≡ (a >>= f)
+  unfolding ◌>>=◌
+  got_then x e = rw (← e) refl
+
+  pub refused_then : (n p : ℕ) → refused n p ≡ a → refused n p ≡ (a >>= f)
+  unfolding ◌>>=◌
+  refused_then n p e = rw (← e) refl
+
 -- a word goes on over a byte at least
-pub letter-on : (text : Bytes) (at end : ℕ) → Starts text at 2 → end ≡ at + before ends_word (from text at) → at < end
+pub letter_on : (text : Bytes) (at : ℕ) → Starts text at 2 → 0 < before ends_word (from text at)
 unfolding ends_word is_word_byte
-letter-on text at end h e =
+letter_on text at h =
     let g = going ends_word text at h.inside (ap not (or_inl _ (eqb (class_of (first (from text at))) 3) (eq-eqb _ _ (ap class_of (first-from text at) ∙ h.class)))) in
     omega arith
 
-pub digit-on : (text : Bytes) (at end : ℕ) → Starts text at 3 → end ≡ at + before ends_number (from text at) → at < end
+pub digit_on : (text : Bytes) (at : ℕ) → Starts text at 3 → 0 < before ends_number (from text at)
 unfolding ends_number is_number_byte is_word_byte
-digit-on text at end h e =
+digit_on text at h =
     let c = ap class_of (first-from text at) ∙ h.class in
     let g = going ends_number text at h.inside (rw c) in
     omega arith
 
--- a word
-module _ (text : Bytes) (at end k : ℕ) (e : end ≡ at + before ends_word (from text at)) (q : k ≡ kind_of (take (end - at) (from text at))) where
-  word-taken : word_at text at ≡ take (end - at) (from text at)
-  unfolding word_at
-  word-taken = let p : before ends_word (from text at) ≡ end - at = omega arith in ap (λ (n : ℕ). take n (from text at)) p
+-- it ends within the text
+pub before_inside : (stop : Bytes → Bool) (text : Bytes) (at : ℕ) → at ≤ length text → at + before stop (from text at) ≤ length text
+before_inside stop text at h = let b = before_le stop (from text at) in let l = length-drop at text in omega arith
 
-  word-length : at + length (word_at text at) ≡ end
-  unfolding word_at
-  word-length = let l = length-take-le (before ends_word (from text at)) (from text at) (before_le ends_word (from text at)) in omega arith
+-- what was read up to an offset
+module _ (stop : Bytes → Bool) (text : Bytes) (at end : ℕ) (e : end ≡ at + before stop (from text at)) where
+  run_taken : take (before stop (from text at)) (from text at) ≡ take (end - at) (from text at)
+  run_taken = let p : before stop (from text at) ≡ end - at = omega arith in ap (λ (n : ℕ). take n (from text at)) p
 
-  word-kind : kind_of (word_at text at) ≡ k
-  word-kind = ap kind_of word-taken ∙ sym q
+  run_end : at + length (take (before stop (from text at)) (from text at)) ≡ end
+  run_end = let l = length-take-le (before stop (from text at)) (from text at) (before_le stop (from text at)) in omega arith
 
-  module _ (line : Bool) (ts : List Token) (ns : List Spelling) where
-    pub word-attribute : k ≡ 3 → cut_word text (record { at = at; line_start = line; tokens = ts; names = ns }) ≡ cut_attribute text end (record { at = at; line_start = line; tokens = ts; names = ns })
-    unfolding cut_word cut_word_of cut_attribute
-    word-attribute p = eq_yes _ _ _ _ (word-kind ∙ p) ∙ rw word-length
-
-    pub word-plain : (k ≡ 3 → ⊥) → is_name k ≡ false → cut_word text (record { at = at; line_start = line; tokens = ts; names = ns }) ≡ got (push k 0 end (record { at = at; line_start = line; tokens = ts; names = ns }))
-    unfolding cut_word cut_word_of
-    word-plain p r = eq_no _ _ _ _ (λ z. p (sym word-kind ∙ z)) ∙ (nay _ _ _ (ap is_name word-kind ∙ r) ∙ rw (word-kind, word-length))
-
-    pub word-name : (k ≡ 3 → ⊥) → is_name k ≡ true → cut_word text (record { at = at; line_start = line; tokens = ts; names = ns }) ≡ got (push_name k (take (end - at) (from text at)) (record { at = at; line_start = line; tokens = ts; names = ns }))
-    unfolding cut_word cut_word_of
-    word-name p r = eq_no _ _ _ _ (λ z. p (sym word-kind ∙ z)) ∙ (yes _ _ _ (ap is_name word-kind ∙ r) ∙ rw (word-kind, word-taken))
-
--- an attribute
-parens-on : (text : Bytes) (word at : ℕ) (a : Attribute) → parenthesized text word at ≡ got a → at ≤ a.next
+-- an attribute does not end before its word
+parens_on : (text : Bytes) (word at : ℕ) (a : Attribute) → got a ≡ parenthesized text word at → at ≤ a.next
 unfolding parenthesized
-parens-on text word at a e = by (leb (length text) (at + 1 + in_parens zero (from text (at + 1)))) refl
+parens_on text word at a e = by (leb (length text) (at + 1 + in_parens zero (from text (at + 1)))) refl
   where
     by : (t : Bool) → leb (length text) (at + 1 + in_parens zero (from text (at + 1))) ≡ t → at ≤ a.next
-    by true p = let q = sym (yes _ _ _ p) ∙ e in let y : ◌≡◌ {A = ℕ} 0 1 = cc in absurd (omega arith)
-    by false p = let q = sym (nay _ _ _ p) ∙ e in let n : at + 2 + in_parens zero (from text (at + 1)) ≡ a.next = cc in omega arith
+    by true p = let q : got a ≡ refused 5 word = e ∙ yes _ _ _ p in absurd cc
+    by false p = let q = e ∙ nay _ _ _ p in let n : at + 2 + in_parens zero (from text (at + 1)) ≡ a.next = cc in omega arith
 
-pub attribute-on : (text : Bytes) (word at : ℕ) (a : Attribute) → attribute_at text word at ≡ got a → at ≤ a.next
+pub attribute_on : (text : Bytes) (word at : ℕ) (a : Attribute) → got a ≡ attribute_at text word at → at ≤ a.next
 unfolding attribute_at
-attribute-on text word at a e = by (eqb (byte_at text (at + before not_blank (from text at))) 40) refl
+attribute_on text word at a e = by (eqb (byte_at text (at + before not_blank (from text at))) 40) refl
   where
     by : (t : Bool) → eqb (byte_at text (at + before not_blank (from text at))) 40 ≡ t → at ≤ a.next
-    by true p = let k = parens-on text word (at + before not_blank (from text at)) a (sym (yes _ _ _ p) ∙ e) in omega arith
-    by false p = let q = sym (nay _ _ _ p) ∙ e in let n : at ≡ a.next = cc in omega arith
-
-module _ (text : Bytes) (at end : ℕ) (line : Bool) (ts : List Token) (ns : List Spelling) where
-  pub attribute-kept : (next : ℕ) (l : Bool) → attribute_at text at end ≡ got (record { layout = l; next = next }) → l ≡ true
-      → cut_attribute text end (record { at = at; line_start = line; tokens = ts; names = ns }) ≡ got (push 3 0 next (record { at = at; line_start = line; tokens = ts; names = ns }))
-  unfolding cut_attribute push_attribute
-  attribute-kept next l e f = then-got _ _ _ e ∙ rw f
-
-  pub attribute-dropped : (next : ℕ) (l : Bool) → attribute_at text at end ≡ got (record { layout = l; next = next }) → l ≡ false
-      → cut_attribute text end (record { at = at; line_start = line; tokens = ts; names = ns }) ≡ got (record { at = next; line_start = false; tokens = ts; names = ns })
-  unfolding cut_attribute push_attribute drop_to
-  attribute-dropped next l e f = then-got _ _ _ e ∙ rw f
-
-  pub attribute-refused : (n p : ℕ) → attribute_at text at end ≡ refused n p → cut_attribute text end (record { at = at; line_start = line; tokens = ts; names = ns }) ≡ refused n p
-  unfolding cut_attribute
-  attribute-refused n p e = then-refused _ _ n p e
+    by true p = let k = parens_on text word (at + before not_blank (from text at)) a (e ∙ yes _ _ _ p) in omega arith
+    by false p = let q = e ∙ nay _ _ _ p in let n : at ≡ a.next = cc in omega arith
 
 -- a number
-module _ (text : Bytes) (at end : ℕ) (e : end ≡ at + before ends_number (from text at)) where
-  number-taken : number_word text at ≡ take (end - at) (from text at)
+module _ (text : Bytes) (at end : ℕ) (e : end ≡ at + before ends_number (from text at)) (s : Cutting) (here : s.at ≡ at) where
+  number-is : number_word text s.at ≡ take (end - at) (from text at)
   unfolding number_word
-  number-taken = let p : before ends_number (from text at) ≡ end - at = omega arith in ap (λ (n : ℕ). take n (from text at)) p
+  number-is = rw here (run_taken ends_number text at end e)
 
-  number-length : at + length (number_word text at) ≡ end
+  number-end : s.at + length (number_word text s.at) ≡ end
   unfolding number_word
-  number-length = let l = length-take-le (before ends_number (from text at)) (from text at) (before_le ends_number (from text at)) in omega arith
+  number-end = rw here (run_end ends_number text at end e)
 
-  module _ (line : Bool) (ts : List Token) (ns : List Spelling) where
-    pub number-got : (v : ℕ) → number_value at (take (end - at) (from text at)) ≡ got v
-        → cut_number text (record { at = at; line_start = line; tokens = ts; names = ns }) ≡ got (push 1 v end (record { at = at; line_start = line; tokens = ts; names = ns }))
-    unfolding cut_number
-    number-got v q = then-got _ _ v (ap (number_value at) number-taken ∙ q) ∙ rw number-length
+  pub number_got : (v : ℕ) → got v ≡ number_value at (take (end - at) (from text at)) → got (push 1 v end s) ≡ cut_number text s
+  unfolding cut_number
+  number_got v q = rw (← number-end) (got_then _ _ v (rw (number-is, here) q))
 
-    pub number-refused : (n p : ℕ) → number_value at (take (end - at) (from text at)) ≡ refused n p → cut_number text (record { at = at; line_start = line; tokens = ts; names = ns }) ≡ refused n p
-    unfolding cut_number
-    number-refused n p q = then-refused _ _ n p (ap (number_value at) number-taken ∙ q)
+  pub number_refused : (n p : ℕ) → refused n p ≡ number_value at (take (end - at) (from text at)) → refused n p ≡ cut_number text s
+  unfolding cut_number
+  number_refused n p q = refused_then _ _ n p (rw (number-is, here) q)
 
--- the others
-module _ (text : Bytes) (at : ℕ) (line : Bool) (ts : List Token) (ns : List Spelling) where
-  pub character_got : (v next : ℕ) → character_at text at ≡ got (record { value = v; next = next })
-      → cut_character text (record { at = at; line_start = line; tokens = ts; names = ns }) ≡ got (push 1 v next (record { at = at; line_start = line; tokens = ts; names = ns }))
-  unfolding cut_character
-  character_got v next q = then-got _ _ _ q
+-- no name is an attribute
+no_attribute : (k : ℕ) → is_name k ≡ true → k ≡ 3 → ⊥
+unfolding is_name
+no_attribute k r z = let f : false ≡ true = rw z at r in absurd cc
 
-  pub character_refused : (n p : ℕ) → character_at text at ≡ refused n p → cut_character text (record { at = at; line_start = line; tokens = ts; names = ns }) ≡ refused n p
-  unfolding cut_character
-  character_refused n p q = then-refused _ _ n p q
+-- a word of a kind
+module _ (text : Bytes) (at end : ℕ) (e : end ≡ at + before ends_word (from text at)) (s : Cutting) (here : s.at ≡ at) where
+  word-is : word_at text s.at ≡ take (end - at) (from text at)
+  unfolding word_at
+  word-is = rw here (run_taken ends_word text at end e)
 
-  pub string_open : (end : ℕ) → end ≡ at + 1 + in_quotes false (from text (at + 1)) → length text ≤ end → cut_string text (record { at = at; line_start = line; tokens = ts; names = ns }) ≡ refused 5 at
-  unfolding cut_string after_string
-  string_open end e h = then-refused _ _ 5 at (le_yes (length text) (at + 1 + in_quotes false (from text (at + 1))) _ _ (omega arith))
+  word-end : s.at + length (word_at text s.at) ≡ end
+  unfolding word_at
+  word-end = rw here (run_end ends_word text at end e)
 
-  pub string_got : (end : ℕ) → end ≡ at + 1 + in_quotes false (from text (at + 1)) → end < length text
-      → cut_string text (record { at = at; line_start = line; tokens = ts; names = ns }) ≡ got (push 2 0 (end + 1) (record { at = at; line_start = line; tokens = ts; names = ns }))
-  unfolding cut_string after_string
-  string_got end e h = then-got _ _ _ (le_no (length text) (at + 1 + in_quotes false (from text (at + 1))) _ _ (omega arith)) ∙ rw e
+  module _ (k : ℕ) (q : k ≡ kind_of (take (end - at) (from text at))) where
+    word-kind : kind_of (word_at text s.at) ≡ k
+    word-kind = ap kind_of word-is ∙ sym q
 
-  pub mark-none : (m : Mark) → m ≡ mark_at (from text at) → m.kind ≡ 0 → cut_mark text (record { at = at; line_start = line; tokens = ts; names = ns }) ≡ refused 7 at
-  unfolding cut_mark
-  mark-none m e z = eq_yes _ _ _ _ (ap (λ (x : Mark). x.kind) (sym e) ∙ z)
+    pub word_attribute : k ≡ 3 → cut_attribute text end s ≡ cut_word text s
+    unfolding cut_word cut_word_of cut_attribute
+    word_attribute p = sym (eq_yes _ _ _ _ (word-kind ∙ p) ∙ rw word-end)
 
-  pub mark-got : (m : Mark) → m ≡ mark_at (from text at) → (m.kind ≡ 0 → ⊥)
-      → cut_mark text (record { at = at; line_start = line; tokens = ts; names = ns }) ≡ got (push m.kind 0 (at + m.size) (record { at = at; line_start = line; tokens = ts; names = ns }))
-  unfolding cut_mark
-  mark-got m e z = eq_no _ _ _ _ (λ q. z (ap (λ (x : Mark). x.kind) e ∙ q)) ∙ rw e
+    pub word_plain : (k ≡ 3 → ⊥) → is_name k ≡ false → got (push k 0 end s) ≡ cut_word text s
+    unfolding cut_word cut_word_of
+    word_plain p r = sym (eq_no _ _ _ _ (λ z. p (sym word-kind ∙ z)) ∙ (nay _ _ _ (ap is_name word-kind ∙ r) ∙ rw (word-kind, word-end)))
 
--- what stands here
-module _ (text : Bytes) (s : Cutting) where
-  pub token-word : class_of (byte_at text s.at) ≡ 2 → cut_token text s ≡ cut_word text s
-  unfolding cut_token
-  token-word p = eq_yes _ _ _ _ p
-
-  module _ (nw : class_of (byte_at text s.at) ≡ 2 → ⊥) where
-    pub token-number : class_of (byte_at text s.at) ≡ 3 → cut_token text s ≡ cut_number text s
-    unfolding cut_token
-    token-number p = eq_no _ _ _ _ nw ∙ eq_yes _ _ _ _ p
-
-    module _ (nn : class_of (byte_at text s.at) ≡ 3 → ⊥) where
-      pub token_character : byte_at text s.at ≡ 39 → cut_token text s ≡ cut_character text s
-      unfolding cut_token
-      token_character p = eq_no _ _ _ _ nw ∙ (eq_no _ _ _ _ nn ∙ eq_yes _ _ _ _ p)
-
-      module _ (nc : byte_at text s.at ≡ 39 → ⊥) where
-        pub token_string : byte_at text s.at ≡ 34 → cut_token text s ≡ cut_string text s
-        unfolding cut_token
-        token_string p = eq_no _ _ _ _ nw ∙ (eq_no _ _ _ _ nn ∙ (eq_no _ _ _ _ nc ∙ eq_yes _ _ _ _ p))
-
-        pub token-mark : (byte_at text s.at ≡ 34 → ⊥) → cut_token text s ≡ cut_mark text s
-        unfolding cut_token
-        token-mark p = eq_no _ _ _ _ nw ∙ (eq_no _ _ _ _ nn ∙ (eq_no _ _ _ _ nc ∙ eq_no _ _ _ _ p))
-
-module _ (text : Bytes) (at : ℕ) (line : Bool) (ts : List Token) (ns : List Spelling) where
-  pub comment_open : (end : ℕ) → end ≡ at + 2 + before ends_comment (from text (at + 2)) → length text ≤ end + 1 → cut_comment text (record { at = at; line_start = line; tokens = ts; names = ns }) ≡ refused 5 end
-  unfolding cut_comment after_comment comment_end
-  comment_open end e h = then-refused _ _ 5 end (le_yes (length text) (at + 2 + before ends_comment (from text (at + 2)) + 1) _ _ (omega arith) ∙ rw e)
-
-  pub comment_got : (end : ℕ) → end ≡ at + 2 + before ends_comment (from text (at + 2)) → end + 1 < length text
-      → cut_comment text (record { at = at; line_start = line; tokens = ts; names = ns }) ≡ got (record { at = end + 2; line_start = line; tokens = ts; names = ns })
-  unfolding cut_comment after_comment comment_end skip_to
-  comment_got end e h = then-got _ _ _ (le_no (length text) (at + 2 + before ends_comment (from text (at + 2)) + 1) _ _ (omega arith)) ∙ rw e
-
-  pub line_kept : (b : Bool) → b ≡ is_macro (directive text at).line → b ≡ true → cut_directive text (record { at = at; line_start = line; tokens = ts; names = ns }) ≡ refused 4 at
-  unfolding cut_directive
-  line_kept b e p = yes _ _ _ (sym e ∙ p)
-
-  pub line-dropped : (b : Bool) (next : ℕ) → b ≡ is_macro (directive text at).line → b ≡ false → next ≡ (directive text at).next
-      → cut_directive text (record { at = at; line_start = line; tokens = ts; names = ns }) ≡ got (record { at = next; line_start = line; tokens = ts; names = ns })
-  unfolding cut_directive skip_to
-  line-dropped b next e p n = nay _ _ _ (sym e ∙ p) ∙ rw n
-
-module _ (text : Bytes) (s : Cutting) where
-  pub other-joins : begins 92 10 (from text s.at) ≡ true → cut_other text s ≡ got (skip_to (s.at + 2) s)
-  unfolding cut_other joins
-  other-joins e = yes _ _ _ e
-
-  module _ (nj : begins 92 10 (from text s.at) ≡ false) where
-    pub other_note : begins 47 47 (from text s.at) ≡ true → cut_other text s ≡ got (skip_to (s.at + line_length (from text s.at)) s)
-    unfolding cut_other joins opens_line_comment
-    other_note e = nay _ _ _ nj ∙ yes _ _ _ e
-
-    module _ (nn : begins 47 47 (from text s.at) ≡ false) where
-      pub other_comment : begins 47 42 (from text s.at) ≡ true → cut_other text s ≡ cut_comment text s
-      unfolding cut_other joins opens_line_comment opens_comment
-      other_comment e = nay _ _ _ nj ∙ (nay _ _ _ nn ∙ yes _ _ _ e)
-
-      module _ (nc : begins 47 42 (from text s.at) ≡ false) where
-        pub other-hash : byte_at text s.at ≡ 35 → s.line_start ≡ true → cut_other text s ≡ cut_directive text s
-        unfolding cut_other joins opens_line_comment opens_comment
-        other-hash e l = nay _ _ _ nj ∙ (nay _ _ _ nn ∙ (nay _ _ _ nc ∙ yes _ _ _ (and_intro (eq-eqb _ _ (first-from text s.at ∙ e)) l)))
-
-        pub other-token : (eqb (byte_at text s.at) 35 && s.line_start) ≡ false → cut_other text s ≡ cut_token text s
-        unfolding cut_other joins opens_line_comment opens_comment
-        other-token e = nay _ _ _ nj ∙ (nay _ _ _ nn ∙ (nay _ _ _ nc ∙ nay _ _ _ (ap (λ (b : ℕ). eqb b 35 && s.line_start) (first-from text s.at) ∙ e)))
-
-  pub next-feed : byte_at text s.at ≡ 10 → cut_next text s ≡ got (new_line (s.at + 1) s)
-  unfolding cut_next
-  next-feed e = eq_yes _ _ _ _ e
-
-  pub next-blank : (byte_at text s.at ≡ 10 → ⊥) → is_blank (byte_at text s.at) ≡ true → cut_next text s ≡ got (skip_to (s.at + 1) s)
-  unfolding cut_next
-  next-blank n e = eq_no _ _ _ _ n ∙ yes _ _ _ e
-
-  pub next-other : (byte_at text s.at ≡ 10 → ⊥) → is_blank (byte_at text s.at) ≡ false → cut_next text s ≡ cut_other text s
-  unfolding cut_next
-  next-other n e = eq_no _ _ _ _ n ∙ nay _ _ _ e
+    pub word_name : is_name k ≡ true → got (push_name k (take (end - at) (from text at)) s) ≡ cut_word text s
+    unfolding cut_word cut_word_of
+    word_name r = sym (eq_no _ _ _ _ (λ z. no_attribute k r (sym word-kind ∙ z)) ∙ (yes _ _ _ (ap is_name word-kind ∙ r) ∙ rw (word-kind, word-is)))
 
 size-by : (a b c : ℕ) (t : Bool) → (eqb a 46 && (eqb b 46 && eqb c 46)) ≡ t → (u : Bool) → eqb (mark_among two_byte_marks (pair a b)) 0 ≡ u
     → (1 ≤ (mark_of a b c).size) × ((mark_of a b c).size ≤ 3)
@@ -240,7 +136,7 @@ size-by a b c true p u q = let e : (mark_of a b c).size ≡ 3 = ap (λ (m : Mark
 size-by a b c false p true q = let e : (mark_of a b c).size ≡ 1 = ap (λ (m : Mark). m.size) (nay _ _ _ p ∙ yes _ _ _ q) in (omega arith, omega arith)
 size-by a b c false p false q = let e : (mark_of a b c).size ≡ 2 = ap (λ (m : Mark). m.size) (nay _ _ _ p ∙ nay _ _ _ q) in (omega arith, omega arith)
 
-pub mark-size : (bs : Bytes) → (1 ≤ (mark_at bs).size) × ((mark_at bs).size ≤ 3)
+mark-size : (bs : Bytes) → (1 ≤ (mark_at bs).size) × ((mark_at bs).size ≤ 3)
 unfolding mark_at
 mark-size bs = size-by (byte_at bs 0) (byte_at bs 1) (byte_at bs 2) _ refl _ refl
 
@@ -268,12 +164,33 @@ kind-by a b c z false p false q =
     let e : (mark_of a b c).kind ≡ mark_among two_byte_marks (pair a b) = ap (λ (m : Mark). m.kind) (nay _ _ _ p ∙ nay _ _ _ q) in
     let k = among-above two_byte_marks (pair a b) refl (λ y. z (e ∙ y)) in omega arith
 
-pub mark-plain : (bs : Bytes) (m : Mark) → m ≡ mark_at bs → (m.kind ≡ 0 → ⊥) → is_name m.kind ≡ false
-unfolding mark_at
-mark-plain bs m e z =
-    let q : m.kind ≡ (mark_at bs).kind = ap (λ (x : Mark). x.kind) e in
-    let k = kind-by (byte_at bs 0) (byte_at bs 1) (byte_at bs 2) (λ y. z (q ∙ y)) _ refl _ refl in
-    name-above (omega arith)
+-- the mark that stands here
+module _ (bs : Bytes) (m : Mark) (is : m ≡ mark_at bs) where
+  pub mark_size : (1 ≤ m.size) × (m.size ≤ 3)
+  mark_size = rw is (mark-size bs)
 
-pub before-inside : (stop : Bytes → Bool) (text : Bytes) (at end : ℕ) → at ≤ length text → end ≡ at + before stop (from text at) → end ≤ length text
-before-inside stop text at end h e = let b = before_le stop (from text at) in let l = length-drop at text in omega arith
+  pub mark_plain : (m.kind ≡ 0 → ⊥) → is_name m.kind ≡ false
+  unfolding mark_at
+  mark_plain z =
+      let k = kind-by (byte_at bs 0) (byte_at bs 1) (byte_at bs 2) (λ y. z (ap (λ (x : Mark). x.kind) is ∙ y)) _ refl _ refl in
+      rw is (name-above k)
+
+-- a line that begins with two slashes goes on
+pub note_on : (text : Bytes) (at : ℕ) → begins 47 47 (from text at) ≡ true → 0 < line_length (from text at)
+unfolding begins line_length ends_line
+note_on text at e =
+    let i = begins-inside 47 47 text at (omega arith) e in
+    let b = eqb-true (first (from text at)) 47 (and_elim_left (eqb (first (from text at)) 47) (eqb (second (from text at)) 47) e) in
+    let g = going ends_line text at (omega arith) (rw b refl) in
+    omega arith
+
+-- what each function cites
+pub ruleset answers = (got_then, refused_then)
+
+pub ruleset attributes = (answers, attribute_on)
+
+pub ruleset words = (word_attribute, word_plain, word_name, letter_on, before_inside)
+
+pub ruleset numbers = (number_got, number_refused, digit_on, before_inside)
+
+pub ruleset comments = (answers, before_inside)

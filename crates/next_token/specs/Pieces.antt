@@ -1,6 +1,6 @@
 -- What a piece of the text does to the cutting.
-use Rattle.std.specs.Prelude.{◌≡◌, Bool, true, false, List, ℕ, suc, ◌-◌, ◌≤◌, ◌<◌, length, take}
-use Rattle.definition.specs.Answer.{Answer, got, refused, ◌>>=◌}
+use Rattle.std.specs.Prelude.{◌≡◌, Bool, true, false, List, ℕ, ◌-◌, ◌≤◌, ◌<◌, length, take, Result}
+use Rattle.definition.specs.Answer.{Answer, got, ◌>>=◌}
 use Rattle.definition.specs.Text.{Bytes, byte_at}
 use Rattle.definition.specs.Scan.{from}
 use Rattle.definition.specs.Class.{class_of}
@@ -9,42 +9,31 @@ use Rattle.definition.specs.Token.{Token}
 use Rattle.definition.specs.Spelling.{Spelling}
 use Rattle.definition.specs.Attribute.{attribute_at}
 use Rattle.definition.specs.Cut.{Cutting, push, push_name, push_attribute}
+use Rattle.encoding.specs.Refusals.{answer_by}
+use Rattle.encoding.specs.declared.refusals.Refusal.{Refusal}
 use Rattle.next_token.specs.declared.Piece.{Piece}
-use Rattle.next_token.specs.declared.Piece.TheVariants.{Skip, Token as Piece-as-Token, Name, Refused}
+use Rattle.next_token.specs.declared.Piece.TheVariants.{Skip, Token as Piece-as-Token, Name}
 
-abbrev pub applied : Bytes → Piece → Cutting → Answer Cutting
-applied text (Skip next line) s = got (record { at = next; line_start = line; tokens = s.tokens; names = s.names })
-applied text (Piece-as-Token k n next) s = got (push k n next s)
-applied text (Name k next) s = got (push_name k (take (next - s.at) (from text s.at)) s)
-applied text (Refused n p) s = refused n p
+abbrev pub applied : Bytes → Piece → Cutting → Cutting
+applied text (Skip next line) s = record { at = next; line_start = line; tokens = s.tokens; names = s.names }
+applied text (Piece-as-Token k n next) s = push k n next s
+applied text (Name k next) s = push_name k (take (next - s.at) (from text s.at)) s
 
--- where the cutting stands after a piece
-abbrev pub ends : ℕ → Piece → ℕ
-ends at (Skip next line) = next
-ends at (Piece-as-Token k n next) = next
-ends at (Name k next) = next
-ends at (Refused n p) = suc at
-
--- a token of a name's kind is a name, and a name ends within the text
-abbrev pub Fine : Bytes → Piece → Type 0
-Fine text (Skip next line) = Unit {0}
-Fine text (Piece-as-Token k n next) = is_name k ≡ false
-Fine text (Name k next) = (is_name k ≡ true) × (next ≤ length text)
-Fine text (Refused n p) = Unit {0}
+-- the text goes on after a piece; a token of a name's kind is a name, and a name ends within the text
+abbrev pub Goes : Bytes → ℕ → Piece → Type 0
+Goes text at (Skip next line) = at < next
+Goes text at (Piece-as-Token k n next) = (at < next) × (is_name k ≡ false)
+Goes text at (Name k next) = (at < next) × (is_name k ≡ true) × (next ≤ length text)
 
 abbrev pub state : ℕ → Bool → List Token → List Spelling → Cutting
 state at line ts ns = record { at = at; line_start = line; tokens = ts; names = ns }
 
--- a step of the definition is what the piece does, and the text goes on; whether a line starts makes no difference, or is given
-pub record Cuts (f : Cutting → Answer Cutting) (text : Bytes) (at : ℕ) (r : Piece) : Type 0 where
-  pub same : (line : Bool) (ts : List Token) (ns : List Spelling) → f (state at line ts ns) ≡ applied text r (state at line ts ns)
-  pub on : at < ends at r
-  pub fine : Fine text r
+-- a step of the definition is what the piece does, if a line starts there or not, and whatever was read before
+abbrev pub CutsOn : (Cutting → Answer Cutting) → Bytes → ℕ → Bool → Result Piece Refusal → Type 0
+CutsOn f text at line r = (ts : List Token) (ns : List Spelling) → answer_by (λ p. applied text p (state at line ts ns)) r ≡ f (state at line ts ns)
 
-pub record CutsOn (f : Cutting → Answer Cutting) (text : Bytes) (at : ℕ) (line : Bool) (r : Piece) : Type 0 where
-  pub same : (ts : List Token) (ns : List Spelling) → f (state at line ts ns) ≡ applied text r (state at line ts ns)
-  pub on : at < ends at r
-  pub fine : Fine text r
+abbrev pub Cuts : (Cutting → Answer Cutting) → Bytes → ℕ → Result Piece Refusal → Type 0
+Cuts f text at r = (line : Bool) → CutsOn f text at line r
 
 -- a byte of a class stands at an offset
 pub record Starts (text : Bytes) (at k : ℕ) : Type 0 where

@@ -1,196 +1,205 @@
 #![tactic(auto)]
 // One piece of a text: what stands at an offset, whatever was read before.
-ghost use Rattle.std.specs.Prelude.{false, ◌+◌, ◌≤◌, ◌<◌, length};
+ghost use Rattle.std.specs.Prelude.{◌+◌, ◌≤◌, ◌<◌, length, IfOk};
 ghost use Rattle.definition.specs.Cut.{cut_word, cut_number, cut_character, cut_string, cut_mark, cut_token, cut_directive, cut_comment, cut_other, cut_next};
-ghost use Rattle.next_token.specs.Pieces.{Cuts, CutsOn, Starts, cut_attribute};
+ghost use Rattle.next_token.specs.Pieces.{Cuts, CutsOn, Goes, Starts, cut_attribute};
 
-use attributes::{Attribute, attribute_at};
+use attributes::attribute_at;
 use characters::character;
 use directives::directive;
 use encoding::ascii::{APOSTROPHE, BACKSLASH, HASH, LINE_FEED, QUOTE, SLASH, STAR};
-use encoding::refusals::{MACRO_LINE, NOT_CLOSED, STRAY_BYTE};
+use encoding::refusals::{Reason, Refusal};
 use encoding::token_kinds::{ATTRIBUTE, BOOL_NAME, IDENTIFIER, NUMBER, TEXT};
 use keywords::kind_of;
-use literals::{Reading, Value, number_value};
+use literals::number_value;
 use punctuators::{mark_at, string_end};
 use scan::{
-    DIGIT, LETTER, begins, byte_at, class_of, comment_end, is_blank, line_end, number_end, word_end,
+    Class, begins, byte_at, class_of, comment_end, is_blank, line_end, number_end, word_end,
 };
 
 // A piece: nothing, with the next offset and whether a line starts there; a token, with its kind, number and the next offset;
-// a name, with its kind and the next offset; or a refusal with its number and offset.
+// or a name, with its kind and the next offset.
 #[derive(Clone, Copy)]
 pub enum Piece {
     Skip(usize, bool),
     Token(u32, u64, usize),
     Name(u32, usize),
-    Refused(u32, usize),
 }
 
 // The attribute whose word stands at an offset and ends at another.
-fn attribute(text: &[u8], at: usize, end: usize) -> Piece
+#[tactic(auto, using(crate::proofs::Steps::attributes), unfolding(crate::specs::Pieces::cut_attribute, definition::specs::Cut::push_attribute, definition::specs::Cut::drop_to, definition::specs::Kind::is_name))]
+fn attribute(text: &[u8], at: usize, end: usize) -> Result<Piece, Refusal>
     requires { at < end }
-    ensures { Cuts (cut_attribute text.now end) text.now at result }
+    ensures value { Cuts (cut_attribute text.now end) text.now at result }
+    ensures goes { IfOk result (Goes text.now at) }
 {
-    let a = attribute_at(text, at, end);
-    match a {
-        Attribute::Got(layout, next) => {
-            if layout {
-                return Piece::Token(ATTRIBUTE, 0, next);
-            }
-            Piece::Skip(next, false)
-        }
-        Attribute::Refused(n, p) => Piece::Refused(n, p),
+    let (layout, next) = attribute_at(text, at, end)?;
+    if layout {
+        Ok(Piece::Token(ATTRIBUTE, 0, next))
+    } else {
+        Ok(Piece::Skip(next, false))
     }
 }
 
 // The word that stands at an offset.
-pub fn word(text: &[u8], at: usize) -> Piece
+#[tactic(auto, using(crate::proofs::Steps::words), unfolding(definition::specs::Kind::is_name))]
+pub fn word(text: &[u8], at: usize) -> Result<Piece, Refusal>
     requires { Starts text.now at 2 }
-    ensures { Cuts (cut_word text.now) text.now at result }
+    ensures value { Cuts (cut_word text.now) text.now at result }
+    ensures goes { IfOk result (Goes text.now at) }
 {
     let end = word_end(text, at);
-    let k = kind_of(&text[at..end]);
-    if k == ATTRIBUTE {
-        return attribute(text, at, end);
+    match kind_of(&text[at..end]) {
+        ATTRIBUTE => attribute(text, at, end),
+        kind @ IDENTIFIER..=BOOL_NAME => Ok(Piece::Name(kind, end)),
+        kind => Ok(Piece::Token(kind, 0, end)),
     }
-    if k < IDENTIFIER {
-        return Piece::Token(k, 0, end);
-    }
-    if k <= BOOL_NAME {
-        return Piece::Name(k, end);
-    }
-    Piece::Token(k, 0, end)
 }
 
 // The number that stands at an offset.
-pub fn number(text: &[u8], at: usize) -> Piece
+#[tactic(auto, using(crate::proofs::Steps::numbers), unfolding(definition::specs::Kind::is_name))]
+pub fn number(text: &[u8], at: usize) -> Result<Piece, Refusal>
     requires { Starts text.now at 3 }
-    ensures { Cuts (cut_number text.now) text.now at result }
+    ensures value { Cuts (cut_number text.now) text.now at result }
+    ensures goes { IfOk result (Goes text.now at) }
 {
     let end = number_end(text, at);
-    let v = number_value(&text[at..end], at);
-    match v {
-        Value::Got(n) => Piece::Token(NUMBER, n, end),
-        Value::Refused(n, p) => Piece::Refused(n, p),
-    }
+    let value = number_value(&text[at..end], at)?;
+    Ok(Piece::Token(NUMBER, value, end))
 }
 
 // The character constant that stands at an offset.
-pub fn constant(text: &[u8], at: usize) -> Piece
+#[tactic(auto, using(crate::proofs::Steps::answers), unfolding(definition::specs::Cut::cut_character, definition::specs::Kind::is_name))]
+pub fn constant(text: &[u8], at: usize) -> Result<Piece, Refusal>
     requires { at < length text.now }
-    ensures { Cuts (cut_character text.now) text.now at result }
+    ensures value { Cuts (cut_character text.now) text.now at result }
+    ensures goes { IfOk result (Goes text.now at) }
 {
-    let v = character(text, at);
-    match v {
-        Reading::Got(n, next) => Piece::Token(NUMBER, n, next),
-        Reading::Refused(n, p) => Piece::Refused(n, p),
-    }
+    let (value, next) = character(text, at)?;
+    Ok(Piece::Token(NUMBER, value, next))
 }
 
 // The string that stands at an offset.
-pub fn string(text: &[u8], at: usize) -> Piece
+#[tactic(auto, using(crate::proofs::Steps::answers), unfolding(definition::specs::Cut::cut_string, definition::specs::Quoted::after_string, definition::specs::Kind::is_name))]
+pub fn string(text: &[u8], at: usize) -> Result<Piece, Refusal>
     requires { at < length text.now }
-    ensures { Cuts (cut_string text.now) text.now at result }
+    ensures value { Cuts (cut_string text.now) text.now at result }
+    ensures goes { IfOk result (Goes text.now at) }
 {
     let end = string_end(text, at + 1);
     if text.len() <= end {
-        return Piece::Refused(NOT_CLOSED, at);
+        return Err(Refusal {
+            reason: Reason::NotClosed,
+            at,
+        });
     }
-    Piece::Token(TEXT, 0, end + 1)
+    Ok(Piece::Token(TEXT, 0, end + 1))
 }
 
 // The mark that stands at an offset.
-pub fn mark(text: &[u8], at: usize) -> Piece
+#[tactic(auto, using(crate::proofs::Steps::mark_size), unfolding(definition::specs::Cut::cut_mark))]
+pub fn mark(text: &[u8], at: usize) -> Result<Piece, Refusal>
     requires { at < length text.now }
-    ensures { Cuts (cut_mark text.now) text.now at result }
+    ensures value { Cuts (cut_mark text.now) text.now at result }
+    ensures goes { IfOk result (Goes text.now at) }
 {
-    let m = mark_at(text, at);
-    if m.kind == 0 {
-        return Piece::Refused(STRAY_BYTE, at);
-    }
-    Piece::Token(m.kind, 0, at + m.size)
+    let Some(m) = mark_at(text, at) else {
+        return Err(Refusal {
+            reason: Reason::StrayByte,
+            at,
+        });
+    };
+    Ok(Piece::Token(m.kind, 0, at + m.size))
 }
 
 // What stands at an offset and is no blank.
-pub fn token(text: &[u8], at: usize) -> Piece
+#[tactic(auto, unfolding(definition::specs::Cut::cut_token))]
+pub fn token(text: &[u8], at: usize) -> Result<Piece, Refusal>
     requires { at < length text.now }
-    ensures { Cuts (cut_token text.now) text.now at result }
+    ensures value { Cuts (cut_token text.now) text.now at result }
+    ensures goes { IfOk result (Goes text.now at) }
 {
     let b = byte_at(text, at);
-    let k = class_of(b);
-    if k == LETTER {
-        return word(text, at);
+    match class_of(b) {
+        Class::Letter => word(text, at),
+        Class::Digit => number(text, at),
+        _ => match b {
+            APOSTROPHE => constant(text, at),
+            QUOTE => string(text, at),
+            _ => mark(text, at),
+        },
     }
-    if k == DIGIT {
-        return number(text, at);
-    }
-    if b == APOSTROPHE {
-        return constant(text, at);
-    }
-    if b == QUOTE {
-        return string(text, at);
-    }
-    mark(text, at)
 }
 
 // The comment that opens at an offset.
-pub fn comment(text: &[u8], at: usize, line: bool) -> Piece
+#[tactic(auto, using(crate::proofs::Steps::comments), unfolding(definition::specs::Cut::cut_comment, definition::specs::Comment::after_comment, definition::specs::Comment::comment_end, definition::specs::Cut::skip_to))]
+pub fn comment(text: &[u8], at: usize, line: bool) -> Result<Piece, Refusal>
     requires { at + 2 ≤ length text.now }
-    ensures { CutsOn (cut_comment text.now) text.now at line result }
+    ensures value { CutsOn (cut_comment text.now) text.now at line result }
+    ensures goes { IfOk result (Goes text.now at) }
 {
     let end = comment_end(text, at + 2);
     if text.len() <= end + 1 {
-        return Piece::Refused(NOT_CLOSED, end);
+        return Err(Refusal {
+            reason: Reason::NotClosed,
+            at: end,
+        });
     }
-    Piece::Skip(end + 2, line)
+    Ok(Piece::Skip(end + 2, line))
 }
 
 // The # line at an offset.
-pub fn hash_line(text: &[u8], at: usize, line: bool) -> Piece
+#[tactic(auto, unfolding(definition::specs::Cut::cut_directive, definition::specs::Cut::skip_to))]
+pub fn hash_line(text: &[u8], at: usize, line: bool) -> Result<Piece, Refusal>
     requires { at < length text.now }
-    ensures { CutsOn (cut_directive text.now) text.now at line result }
+    ensures value { CutsOn (cut_directive text.now) text.now at line result }
+    ensures goes { IfOk result (Goes text.now at) }
 {
-    let d = directive(text, at);
-    if d.keeps {
-        return Piece::Refused(MACRO_LINE, at);
+    let decided = directive(text, at);
+    if decided.keeps {
+        return Err(Refusal {
+            reason: Reason::MacroLine,
+            at,
+        });
     }
-    Piece::Skip(d.next, line)
+    Ok(Piece::Skip(decided.next, line))
 }
 
 // A comment, a # line or a token.
-pub fn other(text: &[u8], at: usize, line: bool) -> Piece
+#[tactic(auto, unfolding(definition::specs::Cut::cut_other, definition::specs::Cut::skip_to, definition::specs::Comment::joins, definition::specs::Comment::opens_line_comment, definition::specs::Comment::opens_comment))]
+pub fn other(text: &[u8], at: usize, line: bool) -> Result<Piece, Refusal>
     requires { at < length text.now }
-    ensures { CutsOn (cut_other text.now) text.now at line result }
+    ensures value { CutsOn (cut_other text.now) text.now at line result }
+    ensures goes { IfOk result (Goes text.now at) }
 {
     if begins(text, at, BACKSLASH, LINE_FEED) {
-        return Piece::Skip(at + 2, line);
+        return Ok(Piece::Skip(at + 2, line));
     }
     if begins(text, at, SLASH, SLASH) {
-        return Piece::Skip(line_end(text, at), line);
+        return Ok(Piece::Skip(line_end(text, at), line));
     }
     if begins(text, at, SLASH, STAR) {
         return comment(text, at, line);
     }
-    if byte_at(text, at) == HASH {
-        if line {
-            return hash_line(text, at, line);
-        }
+    if line && byte_at(text, at) == HASH {
+        return hash_line(text, at, line);
     }
     token(text, at)
 }
 
 // What stands at an offset.
-pub fn next(text: &[u8], at: usize, line: bool) -> Piece
+#[tactic(auto, unfolding(definition::specs::Cut::cut_next, definition::specs::Cut::new_line, definition::specs::Cut::skip_to))]
+pub fn next(text: &[u8], at: usize, line: bool) -> Result<Piece, Refusal>
     requires { at < length text.now }
-    ensures { CutsOn (cut_next text.now) text.now at line result }
+    ensures value { CutsOn (cut_next text.now) text.now at line result }
+    ensures goes { IfOk result (Goes text.now at) }
 {
     let b = byte_at(text, at);
     if b == LINE_FEED {
-        return Piece::Skip(at + 1, true);
+        return Ok(Piece::Skip(at + 1, true));
     }
     if is_blank(b) {
-        return Piece::Skip(at + 1, line);
+        return Ok(Piece::Skip(at + 1, line));
     }
     other(text, at, line)
 }
