@@ -53,7 +53,7 @@ use Rattle.parser.proofs.Goes.{typed-on, stays}
 use Rattle.parser.proofs.Lists.{Entering, begin, enough, fewer, entry-on, one_more, one_fewer, added_parameter-stays, counted-end, counted-on}
 use Rattle.table.proofs.Branch.{by, eq+, eq-}
 use Rattle.table.proofs.Shown.{no!, call, refuse, held_on}
-use Rattle.definition.specs.Table.{storage_number}
+use Rattle.encoding.proofs.Numbered.{has_class, no_class}
 use Rattle.definition_laws.proofs.Progress.{specifiers-on, levels-on}
 use Rattle.definition_laws.proofs.TableProgress.{base_type-stays}
 use Rattle.parser.specs.Answers.{specified}
@@ -443,9 +443,8 @@ list-loop-m-preserved t c = record {
 pub member-specifiers-s-requires : goal.member-specifiers-s-requires
 member-specifiers-s-requires t c = (omega (arith, c.decreases), (c.requires.held, c.requires.readable))
 
-pub member-returns-then-number-ne-NO_STORAGE : goal.member-returns-then-number-ne-NO_STORAGE
-unfolding storage_number
-member-returns-then-number-ne-NO_STORAGE t c = record { run = λ t₁ h. by (declaration-made _ _ _ _ _) (call _ (c.specifiers-s.ensures.run t₁ h) (ap specified c.in-Done.is) (λ t₂ h₂. eq- _ _ _ _ (λ e. c.if-number-ne-NO_STORAGE.true (c.number.ensures ∙ e)) (no! h₂ refl))) }
+pub member-returns-then-ne : goal.member-returns-then-ne
+member-returns-then-ne t c = record { run = λ t₁ h. by (declaration-made _ _ _ _ _) (call _ (c.specifiers-s.ensures.run t₁ h) (ap specified c.in-Done.is) (λ t₂ h₂. eq- _ _ _ _ (has_class c.in-Done.p.storage c.if-ne.ensures) (no! h₂ refl))) }
 
 pub member-base_type-r-requires : goal.member-base_type-r-requires
 member-base_type-r-requires t c = held_on c.specifiers-s.ensures c.requires.held (ap specified c.in-Done.is)
@@ -463,11 +462,10 @@ pub member-shape_of-v-in-Done-r : goal.member-shape_of-v-in-Done-r
 member-shape_of-v-in-Done-r t c = c.v-in-Done-r-1.given ∙ (c.v-in-Done-1.given ∙ c.v-1.given)
 
 pub member-returns-in-Done-r : goal.member-returns-in-Done-r
-unfolding storage_number
 member-returns-in-Done-r t c = let a = held_on c.specifiers-s.ensures c.requires.held (ap specified c.in-Done.is) in
     let far = member-enough (tokens c.args.kinds.now c.args.numbers.now) (on c.specifiers-s.ensures c.requires.held (ap specified c.in-Done.is) (specifiers-on _ _ _ (levels-on _ _ _))) (stays c.base_type-r.ensures a (ap step c.in-Done-r.is) (λ s. base_type-stays s _ _ _)) in
     record {
-      run = λ t₁ h. by (declaration-made _ _ _ _ _) (call _ (c.specifiers-s.ensures.run t₁ h) (ap specified c.in-Done.is) (λ t₂ h₂. eq+ _ _ _ _ (sym c.number.ensures ∙ c.if-number-ne-NO_STORAGE.false)
+      run = λ t₁ h. by (declaration-made _ _ _ _ _) (call _ (c.specifiers-s.ensures.run t₁ h) (ap specified c.in-Done.is) (λ t₂ h₂. eq+ _ _ _ _ (no_class c.in-Done.p.storage c.if-ne.ensures)
           (call _ (c.base_type-r.ensures.run t₂ h₂) (ap step c.in-Done-r.is) (λ t₃ h₃. (c.after_type.ensures.rounds _ far).run t₃ h₃))));
     }
 
@@ -481,9 +479,8 @@ pub member-shape_of-v-in-Refused-r : goal.member-shape_of-v-in-Refused-r
 member-shape_of-v-in-Refused-r t c = c.v-in-Done-1.given ∙ c.v-1.given
 
 pub member-returns-in-Refused-r : goal.member-returns-in-Refused-r
-unfolding storage_number
 member-returns-in-Refused-r t c = record {
-  run = λ t₁ h. by (declaration-made _ _ _ _ _) (call _ (c.specifiers-s.ensures.run t₁ h) (ap specified c.in-Done.is) (λ t₂ h₂. eq+ _ _ _ _ (sym c.number.ensures ∙ c.if-number-ne-NO_STORAGE.false)
+  run = λ t₁ h. by (declaration-made _ _ _ _ _) (call _ (c.specifiers-s.ensures.run t₁ h) (ap specified c.in-Done.is) (λ t₂ h₂. eq+ _ _ _ _ (no_class c.in-Done.p.storage c.if-ne.ensures)
       (refuse _ (c.base_type-r.ensures.run t₂ h₂) (ap step c.in-Refused-r.is) refl)));
 }
 
