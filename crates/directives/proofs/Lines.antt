@@ -1,67 +1,69 @@
 -- Laws of a # line, read from its start. Assumes nothing.
 use mathlib.Core.Path.{◌≡◌, refl, sym, ap, ◌∙◌}
 use mathlib.Core.Bool.{Bool, true, false}
-use mathlib.Core.List.{◌∷◌}
+use mathlib.Core.List.{[], ◌∷◌}
 use mathlib.Mathlib.Data.Bool.Basic.{and_elim_left}
 use Prim.Native.Nat.{ℕ, suc, ◌+◌, ◌-◌, ◌≤◌, ◌<◌, min}
 use native.Mathlib.Omega.{arith}
 use lib.Dec.{eqb, leb}
 use lib.ListN.{length, length-drop}
 use Rattle.definition.specs.Text.{Bytes, byte_at}
-use Rattle.definition.specs.Scan.{from, begins}
-use Rattle.definition.specs.Comment.{joins, opens_line_comment, opens_comment, ends_line, line_length, comment_end}
+use Rattle.definition.specs.Scan.{from, begins, before}
+use Rattle.definition.specs.Comment.{joins, opens_line_comment, opens_comment, ends_line, line_length, ends_comment, comment_end}
 use Rattle.definition.specs.Directive.{Line, line_from, directive, is_macro}
 use Rattle.definition_laws.proofs.LexerProgress.{before_le, first-from}
 use Rattle.lemmas.proofs.Branch.{yes, nay, le_yes, le_no}
 use Rattle.scan.proofs.Going.{begins-is, begins-inside, going}
-use borrow.Author.Tests.{leb-true, leb-false, eqb-true}
+use borrow.Author.Tests.{leb-true, leb-false, eqb-true, eq-eqb, ne_eqb}
 use native.Mathlib.Nat.{min-eq_left, min-eq_right, le_of_lt}
-use Rattle.directives.specs.Turn.{turn, turns}
-use Rattle.directives.proofs.Macro.{decides}
+use Rattle.directives.specs.declared.State.{State}
+use Rattle.directives.specs.declared.State.TheVariants.{BeforeWord}
+use Rattle.directives.specs.Turn.{wanted}
 
 -- the loop over a # line: what is left of it, from a state, gives the whole
-pub record Turning (text : Bytes) (i s : ℕ) (keeps : Bool) (next : ℕ) : Type 0 where
+pub record Turning (text : Bytes) (i : ℕ) (s : State) (keeps : Bool) (next : ℕ) : Type 0 where
   pub rounds : ℕ
   pub enough : length text - i < rounds
-  pub line : keeps ≡ eqb (turns s (line_from rounds text i).line) 10
+  pub line : keeps ≡ wanted s (line_from rounds text i).line
   pub end : next ≡ (line_from rounds text i).next
 
-pub starts : (text : Bytes) (at : ℕ) → at < length text → Turning text (at + 1) 0 (is_macro (directive text at).line) (directive text at).next
+pub starts : (text : Bytes) (at : ℕ) → at < length text → Turning text (at + 1) BeforeWord (is_macro (directive text at).line) (directive text at).next
 unfolding directive
-starts text at h = record { rounds = length text; enough = omega arith; line = sym (decides _); end = refl }
+starts text at h = record { rounds = length text; enough = omega arith; line = refl; end = refl }
 
-module _ (text : Bytes) (i s : ℕ) {keeps : Bool} {next : ℕ} (g : Turning text i s keeps next) where
+module _ (text : Bytes) (i : ℕ) (s : State) {keeps : Bool} {next : ℕ} (g : Turning text i s keeps next) where
   one_more : line_from g.rounds text i ≡ line_from (suc (g.rounds - 1)) text i
   one_more = let k = g.enough in let q : g.rounds ≡ suc (g.rounds - 1) = omega arith in ap (λ (n : ℕ). line_from n text i) q
 
-  pub line-ends : (b : Bool) → b ≡ eqb s 10 → length text ≤ i → (b ≡ keeps) × (i ≡ next)
-  unfolding line_from turns
-  line-ends b e h =
-      let q = one_more ∙ le_yes _ _ _ _ h in
-      (e ∙ sym (g.line ∙ ap (λ (l : Line). eqb (turns s l.line) 10) q), sym (g.end ∙ ap (λ (l : Line). l.next) q))
+  -- nothing is left
+  ends : line_from (suc (g.rounds - 1)) text i ≡ record { line = []; next = i } → (wanted s [] ≡ keeps) × (i ≡ next)
+  ends e = let q = one_more ∙ e in (sym (g.line ∙ ap (λ (l : Line). wanted s l.line) q), sym (g.end ∙ ap (λ (l : Line). l.next) q))
+
+  pub line-ends : length text ≤ i → (wanted s [] ≡ keeps) × (i ≡ next)
+  unfolding line_from
+  line-ends h = ends (le_yes _ _ _ _ h)
 
   module _ (h : i < length text) where
     -- what the rest is, and the loop goes on
-    goes : (b j : ℕ) → i < j → j ≤ length text → line_from (suc (g.rounds - 1)) text i ≡ record { line = b ∷ (line_from (g.rounds - 1) text j).line; next = (line_from (g.rounds - 1) text j).next }
-        → Turning text j (turn s b) keeps next
-    unfolding turns
-    goes b j p r e =
-        let q = one_more ∙ e in
-        record {
-          rounds = g.rounds - 1;
-          enough = (let k = g.enough in omega arith);
-          line = g.line ∙ ap (λ (l : Line). eqb (turns s l.line) 10) q;
-          end = g.end ∙ ap (λ (l : Line). l.next) q;
-        }
+    module _ (t : State) (b j : ℕ) (p : i < j) (r : j ≤ length text) (turned : (rest : Bytes) → wanted t rest ≡ wanted s (b ∷ rest)) where
+      goes : line_from (suc (g.rounds - 1)) text i ≡ record { line = b ∷ (line_from (g.rounds - 1) text j).line; next = (line_from (g.rounds - 1) text j).next } → Turning text j t keeps next
+      goes e =
+          let q = one_more ∙ e in
+          record {
+            rounds = g.rounds - 1;
+            enough = (let k = g.enough in omega arith);
+            line = g.line ∙ (ap (λ (l : Line). wanted s l.line) q ∙ sym (turned _));
+            end = g.end ∙ ap (λ (l : Line). l.next) q;
+          }
 
-    pub line_joins : (t : ℕ) → begins 92 10 (from text i) ≡ true → i + 2 ≤ length text → t ≡ turn s 32 → Turning text (i + 2) t keeps next
+    pub line_joins : (t : State) → begins 92 10 (from text i) ≡ true → i + 2 ≤ length text → ((rest : Bytes) → wanted t rest ≡ wanted s (32 ∷ rest)) → Turning text (i + 2) t keeps next
     unfolding line_from joins
-    line_joins t e p q = rw q (goes 32 (i + 2) (omega arith) p (le_no _ _ _ _ h ∙ yes _ _ _ e))
+    line_joins t e p q = goes t 32 (i + 2) (omega arith) p q (le_no _ _ _ _ h ∙ yes _ _ _ e)
 
     module _ (nj : begins 92 10 (from text i) ≡ false) where
-      pub line_comment : (t j : ℕ) → begins 47 42 (from text i) ≡ true → i < j → j ≡ min (comment_end text i + 2) (length text) → j ≤ length text → t ≡ turn s 32 → Turning text j t keeps next
+      pub line_comment : (t : State) (j : ℕ) → begins 47 42 (from text i) ≡ true → i < j → j ≡ min (comment_end text i + 2) (length text) → j ≤ length text → ((rest : Bytes) → wanted t rest ≡ wanted s (32 ∷ rest)) → Turning text j t keeps next
       unfolding line_from joins opens_comment
-      line_comment t j e p w r q = rw q (goes 32 j p r (le_no _ _ _ _ h ∙ (nay _ _ _ nj ∙ (yes _ _ _ e ∙ rw w))))
+      line_comment t j e p w r q = goes t 32 j p r q (le_no _ _ _ _ h ∙ (nay _ _ _ nj ∙ (yes _ _ _ e ∙ rw w)))
 
       module _ (nc : begins 47 42 (from text i) ≡ false) where
         pub line_note : (j : ℕ) → begins 47 47 (from text i) ≡ true → i < j → j ≡ i + line_length (from text i) → Turning text j s keeps next
@@ -71,22 +73,23 @@ module _ (text : Bytes) (i s : ℕ) {keeps : Bool} {next : ℕ} (g : Turning tex
             record {
               rounds = g.rounds - 1;
               enough = (let k = g.enough in omega arith);
-              line = g.line ∙ ap (λ (l : Line). eqb (turns s l.line) 10) q;
+              line = g.line ∙ ap (λ (l : Line). wanted s l.line) q;
               end = g.end ∙ ap (λ (l : Line). l.next) q;
             }
 
         module _ (nn : begins 47 47 (from text i) ≡ false) where
-          pub line-feed : (b : Bool) → b ≡ eqb s 10 → eqb (byte_at text i) 10 ≡ true → (b ≡ keeps) × (i ≡ next)
-          unfolding line_from joins opens_comment opens_line_comment ends_line turns
-          line-feed b z e =
-              let q = one_more ∙ (le_no _ _ _ _ h ∙ (nay _ _ _ nj ∙ (nay _ _ _ nc ∙ (nay _ _ _ nn ∙ yes _ _ _ (ap (λ (x : ℕ). eqb x 10) (first-from text i) ∙ e))))) in
-              (z ∙ sym (g.line ∙ ap (λ (l : Line). eqb (turns s l.line) 10) q), sym (g.end ∙ ap (λ (l : Line). l.next) q))
-
-          pub line_byte : (t : ℕ) → eqb (byte_at text i) 10 ≡ false → t ≡ turn s (byte_at text i) → Turning text (i + 1) t keeps next
+          pub line-feed : byte_at text i ≡ 10 → (wanted s [] ≡ keeps) × (i ≡ next)
           unfolding line_from joins opens_comment opens_line_comment ends_line
-          line_byte t e q = rw q (goes (byte_at text i) (i + 1) (omega arith) (omega arith) (le_no _ _ _ _ h ∙ (nay _ _ _ nj ∙ (nay _ _ _ nc ∙ (nay _ _ _ nn ∙ nay _ _ _ (ap (λ (x : ℕ). eqb x 10) (first-from text i) ∙ e))))))
+          line-feed e = ends (le_no _ _ _ _ h ∙ (nay _ _ _ nj ∙ (nay _ _ _ nc ∙ (nay _ _ _ nn ∙ yes _ _ _ (eq-eqb _ _ (first-from text i ∙ e))))))
+
+          pub line_byte : (t : State) → (byte_at text i ≡ 10 → ⊥) → ((rest : Bytes) → wanted t rest ≡ wanted s (byte_at text i ∷ rest)) → Turning text (i + 1) t keeps next
+          unfolding line_from joins opens_comment opens_line_comment ends_line
+          line_byte t e q = goes t (byte_at text i) (i + 1) (omega arith) (omega arith) q (le_no _ _ _ _ h ∙ (nay _ _ _ nj ∙ (nay _ _ _ nc ∙ (nay _ _ _ nn ∙ nay _ _ _ (ne_eqb _ _ (λ z. e (sym (first-from text i) ∙ z)))))))
 
 -- how far a comment goes
+pub comment_inside : (text : Bytes) (i : ℕ) → i ≤ length text → i + before ends_comment (from text i) ≤ length text
+comment_inside text i h = let b = before_le ends_comment (from text i) in let l = length-drop i text in omega arith
+
 no_feed : (text : Bytes) (i : ℕ) → byte_at text i ≡ 47 → ends_line (from text i) ≡ false
 unfolding ends_line
 no_feed text i e = rw (first-from text i, e)

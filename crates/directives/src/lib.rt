@@ -1,26 +1,27 @@
 #![tactic(auto)]
 // # lines: where one ends, and whether it is a macro that is refused.
-ghost use Rattle.std.specs.Prelude.{◌≡◌, ◌+◌, ◌≤◌, ◌<◌, min, length};
+ghost use Rattle.std.specs.Prelude.{◌≡◌, [], ◌∷◌, ◌+◌, ◌≤◌, ◌<◌, min, length};
+ghost use Rattle.definition.specs.Text.{Bytes};
 ghost use Rattle.definition.specs.Comment.{comment_end};
-ghost use Rattle.directives.specs.Turn.{first_turn, define_turn, name_turn, body_turn, word_turn, turn, Decides};
+ghost use Rattle.directives.specs.declared.State.TheVariants.{InDefine, InBody};
+ghost use Rattle.directives.specs.Turn.{wanted, Decides};
 
 use encoding::ascii::{BACKSLASH, LINE_FEED, OPEN_PAREN, SLASH, SPACE, STAR};
-use scan::{LETTER, begins, byte_at, class_of, comment_end, is_blank, is_word_byte, line_end};
+use scan::{Class, begins, byte_at, class_of, comment_end, is_blank, is_word_byte, line_end};
 
-const AFTER_DEFINE: u32 = 6;
-
-const BEFORE_NAME: u32 = 7;
-
-const IN_NAME: u32 = 8;
-
-const IN_BODY: u32 = 9;
-
-const KEPT: u32 = 10;
-
-const DROPPED: u32 = 11;
-
-// The letters of `define`.
-const DEFINE: [u32; 6] = [100, 101, 102, 105, 110, 101];
+// How far a # line was read that could be a macro.
+#[derive(Clone, Copy)]
+enum State {
+    BeforeWord,
+    // With so many letters of `define` read.
+    InDefine(usize),
+    BeforeName,
+    InName,
+    // In a body that says nothing yet.
+    InBody,
+    Kept,
+    Dropped,
+}
 
 // A # line: whether it is kept, and where it ends.
 #[derive(Clone, Copy)]
@@ -29,107 +30,65 @@ pub struct Decided {
     pub next: usize,
 }
 
-fn first_turn(b: u32) -> u32
-    ensures { result ≡ first_turn b }
+// The state after a byte, behind so many letters of `define`.
+#[tactic(auto, using(crate::proofs::Macro::letter_same, crate::proofs::Macro::letter_other), unfolding(definition::specs::Directive::past_blanks, definition::specs::Scan::starts_with, definition::specs::Text::bytes, crate::specs::Turn::wants))]
+fn define_turn(read: usize, b: u32) -> State
+    ensures { (rest : Bytes) → wanted result rest ≡ wanted (InDefine read) (b ∷ rest) }
 {
-    if is_blank(b) {
-        return 0;
+    match b"define".get(read) {
+        Some(letter) if u32::from(*letter) == b => State::InDefine(read + 1),
+        None if is_blank(b) => State::BeforeName,
+        _ => State::Dropped,
     }
-    if b == 100 {
-        return 1;
-    }
-    DROPPED
 }
 
-fn define_turn(s: u32, b: u32) -> u32
-    requires { s < 6 }
-    ensures { result ≡ define_turn s b }
+// The state after a byte of a body, or the first one past the name.
+#[tactic(auto, unfolding(definition::specs::Directive::says_something))]
+fn body_turn(b: u32) -> State
+    ensures { (rest : Bytes) → wanted result rest ≡ wanted InBody (b ∷ rest) }
 {
-    let i = s as usize;
-    let d = DEFINE[i];
-    if b == d {
-        return s + 1;
+    if is_blank(b) || b == BACKSLASH {
+        State::InBody
+    } else {
+        State::Kept
     }
-    DROPPED
-}
-
-fn name_turn(b: u32) -> u32
-    ensures { result ≡ name_turn b }
-{
-    if is_blank(b) {
-        return BEFORE_NAME;
-    }
-    if class_of(b) == LETTER {
-        return IN_NAME;
-    }
-    DROPPED
-}
-
-fn body_turn(b: u32) -> u32
-    ensures { result ≡ body_turn b }
-{
-    if is_blank(b) {
-        return IN_BODY;
-    }
-    if b == BACKSLASH {
-        return IN_BODY;
-    }
-    KEPT
-}
-
-fn word_turn(b: u32) -> u32
-    ensures { result ≡ word_turn b }
-{
-    if is_word_byte(b) {
-        return IN_NAME;
-    }
-    if b == OPEN_PAREN {
-        return DROPPED;
-    }
-    body_turn(b)
 }
 
 // The state after a byte.
-fn turn(s: u32, b: u32) -> u32
-    ensures { result ≡ turn s b }
+#[tactic(auto, using(crate::proofs::Macro::word_begins, crate::proofs::Macro::name_opens, crate::proofs::Macro::name_past), unfolding(definition::specs::Directive::is_macro, definition::specs::Directive::past_blanks, definition::specs::Directive::is_name_and_body, definition::specs::Directive::ends_word, definition::specs::Class::is_word_byte, definition::specs::Scan::before))]
+fn turn(state: State, b: u32) -> State
+    ensures { (rest : Bytes) → wanted result rest ≡ wanted state (b ∷ rest) }
 {
-    if s == 0 {
-        return first_turn(b);
+    match state {
+        State::BeforeWord if is_blank(b) => State::BeforeWord,
+        State::BeforeWord => define_turn(0, b),
+        State::InDefine(read) => define_turn(read, b),
+        State::BeforeName if is_blank(b) => State::BeforeName,
+        State::BeforeName if class_of(b) == Class::Letter => State::InName,
+        State::BeforeName => State::Dropped,
+        State::InName if is_word_byte(b) => State::InName,
+        State::InName if b == OPEN_PAREN => State::Dropped,
+        State::InName => body_turn(b),
+        State::InBody => body_turn(b),
+        State::Kept | State::Dropped => state,
     }
-    if s < AFTER_DEFINE {
-        return define_turn(s, b);
-    }
-    if s == AFTER_DEFINE {
-        if is_blank(b) {
-            return BEFORE_NAME;
-        }
-        return DROPPED;
-    }
-    if s == BEFORE_NAME {
-        return name_turn(b);
-    }
-    if s == IN_NAME {
-        return word_turn(b);
-    }
-    if s == IN_BODY {
-        return body_turn(b);
-    }
-    s
+}
+
+// A line that ends in this state is kept.
+#[tactic(auto, using(crate::proofs::Macro::not_kept))]
+fn is_kept(state: State) -> bool
+    ensures { result ≡ wanted state [] }
+{
+    matches!(state, State::Kept)
 }
 
 // The offset after a comment that opens at an offset; the text's end where it is not closed.
+#[tactic(auto, using(crate::proofs::Lines::comment_inside), unfolding(definition::specs::Comment::comment_end))]
 fn past_comment(text: &[u8], at: usize) -> usize
     requires { at + 2 ≤ length text.now }
     ensures { result ≡ min (comment_end text.now at + 2) (length text.now) }
 {
-    let end = comment_end(text, at + 2);
-    if text.len() <= end {
-        return text.len();
-    }
-    if text.len() - end <= 2 {
-        return text.len();
-    }
-    end + 2
+    (comment_end(text, at + 2) + 2).min(text.len())
 }
 
 // The # line whose # stands at an offset.
@@ -138,34 +97,27 @@ pub fn directive(text: &[u8], at: usize) -> Decided
     ensures { Decides text.now at result }
 {
     let mut i = at + 1;
-    let mut s = 0;
+    let mut state = State::BeforeWord;
     while i < text.len() {
         if begins(text, i, BACKSLASH, LINE_FEED) {
-            s = turn(s, SPACE);
+            state = turn(state, SPACE);
             i += 2;
-            continue;
-        }
-        if begins(text, i, SLASH, STAR) {
-            s = turn(s, SPACE);
+        } else if begins(text, i, SLASH, STAR) {
+            state = turn(state, SPACE);
             i = past_comment(text, i);
-            continue;
-        }
-        if begins(text, i, SLASH, SLASH) {
+        } else if begins(text, i, SLASH, SLASH) {
             i = line_end(text, i);
-            continue;
+        } else {
+            let b = byte_at(text, i);
+            if b == LINE_FEED {
+                break;
+            }
+            state = turn(state, b);
+            i += 1;
         }
-        let b = byte_at(text, i);
-        if b == LINE_FEED {
-            return Decided {
-                keeps: s == KEPT,
-                next: i,
-            };
-        }
-        s = turn(s, b);
-        i += 1;
     }
     Decided {
-        keeps: s == KEPT,
+        keeps: is_kept(state),
         next: i,
     }
 }
