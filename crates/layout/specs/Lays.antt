@@ -10,7 +10,7 @@ use Rattle.table.specs.Held.{InWords, Encodes, Left, member_at}
 use Rattle.encoding.specs.Refusals.{number_of}
 use Rattle.encoding.specs.declared.refusals.Reason.{Reason}
 use Rattle.encoding.specs.declared.refusals.Refusal.{Refusal}
-use Rattle.table.specs.Reply.{Reply, ok, bad, replied}
+use Rattle.table.specs.Reply.{Reply, ok, bad}
 use Rattle.table.specs.declared.Cursor.{Cursor}
 use Rattle.model.specs.declared.Model.{Model}
 use Rattle.model.specs.Meaning.{model}
@@ -31,10 +31,12 @@ place (Err r) e = refused (number_of r) e.offset
 
 -- what the members take, and the body's size: the cursor stays
 abbrev pub placing : Cursor → Result Laid Refusal → Reply MeantLaid
-placing c = replied (λ l. ok c (laid_of l))
+placing c (Ok l) = ok c (laid_of l)
+placing c (Err e) = bad (number_of e.reason) e.at
 
 abbrev pub sized : Cursor → Result ℕ Refusal → Reply ℕ
-sized c = replied (λ n. ok c n)
+sized c (Ok n) = ok c n
+sized c (Err e) = bad (number_of e.reason) e.at
 
 -- No entry from number i on carries the mark.
 pub record LastIs (mark members i : ℕ) (w : List ℕ) (r : Bool) : Type 0 where

@@ -1,11 +1,9 @@
 -- What it means that a function over the lent slices does what the definition says.
-use Rattle.std.specs.Prelude.{◌≡◌, List, ℕ, ℤ, get_or, Result, Ok, Err}
+use Rattle.std.specs.Prelude.{◌≡◌, List, ℕ, ℤ, get_or}
 use Rattle.definition.specs.Answer.{Answer, got, refused}
 use Rattle.definition.specs.Row.{Row, kind_of, target_of, flags_of, row_name, span_of, extent_of}
 use Rattle.definition.specs.Table.{Table, Declaration as MeantDeclaration, State, Reads}
-use Rattle.encoding.specs.Refusals.{number_of}
 use Rattle.encoding.specs.Storage.{storage}
-use Rattle.encoding.specs.declared.refusals.Refusal.{Refusal}
 use Rattle.table.specs.Ends.{Ends}
 use Rattle.table.specs.Held.{state, Encodes, InWords, InWides, InSigneds, Left}
 use Rattle.table.specs.declared.Cursor.{Cursor}
@@ -27,14 +25,6 @@ pub data Nothing : Type 0 where
 abbrev pub step : Step → Reply ℕ
 step (Done c i) = ok c i
 step (Refused n p) = bad n p
-
--- A result of the code as such an answer, by what a value in it means: a cursor with a value, say.
-abbrev pub replied : {X Y : Type 0} → (X → Reply Y) → Result X Refusal → Reply Y
-replied f (Ok x) = f x
-replied f (Err e) = bad (number_of e.reason) e.at
-
-abbrev pub reply : {X : Type 0} → Result (Cursor × X) Refusal → Reply X
-reply = replied (λ p. ok p.0 p.1)
 
 abbrev pub move : Move → Reply Nothing
 move (To c) = ok c none
