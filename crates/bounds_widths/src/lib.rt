@@ -8,7 +8,6 @@ ghost use Rattle.table.specs.Held.{Room};
 ghost use Rattle.evaluating.specs.Leaves.{Leaves};
 ghost use Rattle.bounds_widths.specs.Parts.{width, bound};
 
-use constants::Evaluated;
 use encoding::refusals::{BAD_BOUND, BAD_WIDTH, MISSING_MARK};
 use encoding::token_kinds::{CLOSE_BRACKET, COLON, STAR};
 use evaluating::constant_here;
@@ -45,7 +44,7 @@ pub fn bit_width(
     }
     let r = constant_here(kinds, numbers, w, v, c.moved(i + 1), room);
     match r {
-        Evaluated::Done(e, z) => {
+        Ok((e, z)) => {
             if z < 0 {
                 return Step::Refused(BAD_WIDTH, at);
             }
@@ -54,7 +53,7 @@ pub fn bit_width(
             }
             Step::Done(e, z as u32 + 1)
         }
-        Evaluated::Refused(n, p) => Step::Refused(n, p),
+        Err(x) => Step::Refused(u32::from(x.reason), x.at),
     }
 }
 
@@ -73,7 +72,7 @@ fn constant_bound(
     let at = c.at;
     let r = constant_here(kinds, numbers, w, v, c, room);
     match r {
-        Evaluated::Done(e, z) => {
+        Ok((e, z)) => {
             let i = e.at;
             if kind_at(kinds, i) != CLOSE_BRACKET {
                 return Bound::Refused(MISSING_MARK, i);
@@ -83,7 +82,7 @@ fn constant_bound(
             }
             Bound::Of(e.moved(i + 1), z as u64)
         }
-        Evaluated::Refused(n, p) => Bound::Refused(n, p),
+        Err(x) => Bound::Refused(u32::from(x.reason), x.at),
     }
 }
 

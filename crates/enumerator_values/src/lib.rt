@@ -9,7 +9,6 @@ ghost use Rattle.table.specs.Held.{Room};
 ghost use Rattle.evaluating.specs.Leaves.{Leaves};
 ghost use Rattle.enumerator_values.specs.Pending.{pending, given};
 
-use constants::Evaluated;
 use encoding::token_kinds::EQUALS;
 use evaluating::constant_here;
 use table::{Cursor, kind_at};
@@ -57,7 +56,7 @@ pub fn enumerator_value(
     }
     let r = constant_here(kinds, numbers, w, v, c.moved(at + 1), room);
     match r {
-        Evaluated::Done(e, z) => Given::Reads(e, Next::Value(z)),
-        Evaluated::Refused(n, p) => Given::Refused(n, p),
+        Ok((e, z)) => Given::Reads(e, Next::Value(z)),
+        Err(x) => Given::Refused(u32::from(x.reason), x.at),
     }
 }

@@ -3,16 +3,15 @@
 ghost use Rattle.std.specs.Prelude.{◌≤◌};
 ghost use Rattle.definition.specs.Enumeration.{enumerator};
 ghost use Rattle.definition.specs.Reader.{levels};
-ghost use Rattle.constants.specs.Here.{evaluated};
 ghost use Rattle.constants.specs.Reading.{tokens};
 ghost use Rattle.table.specs.Held.{Held};
 ghost use Rattle.table.specs.Reply.{Does, Moves, move};
 ghost use Rattle.naming.specs.Names.{NamesFit};
 ghost use Rattle.enumerator_values.specs.Pending.{pending};
 ghost use Rattle.enumerators.specs.Under.{Under};
+ghost use Rattle.enumerators.specs.Valued.{valued};
 ghost use Rattle.enumerators.specs.Doing.{enumerators_here, Closes};
 
-use constants::Evaluated;
 use encoding::refusals::{MISSING_MARK, OUT_OF_RANGE};
 use encoding::regions::OPEN_LIST;
 use encoding::token_kinds::{CLOSE_BRACE, COMMA};
@@ -20,6 +19,13 @@ use enumerator_values::{Given, Next, counted_on, enumerator_value};
 use naming::name_at;
 use table::{Cursor, Move, Step, kind_at, push_value};
 use words::classes::is_name;
+
+// An enumerator's value, and the table's cursor after it; or a refusal.
+#[derive(Clone, Copy)]
+pub enum Valued {
+    Done(Cursor, i64),
+    Refused(u32, usize),
+}
 
 // One enumerator, at a name: its value, which must be in range.
 pub fn enumerator(
@@ -32,27 +38,27 @@ pub fn enumerator(
     first: u32,
     next: Next,
     room: u32,
-) -> Evaluated
+) -> Valued
     requires held { Held c w.old d.old v.old }
     requires names_fit { NamesFit kinds.now numbers.now }
     requires first_bound { first ≤ 4096 }
-    ensures { Under (λ m. Does (enumerator (tokens kinds.now numbers.now) m (levels (tokens kinds.now numbers.now) m room) first (pending next)) c w.old d.old v.old (evaluated result) w.new d.new v.new) }
+    ensures { Under (λ m. Does (enumerator (tokens kinds.now numbers.now) m (levels (tokens kinds.now numbers.now) m room) first (pending next)) c w.old d.old v.old (valued result) w.new d.new v.new) }
 {
     let at = c.at;
     if !is_name(kind_at(kinds, at)) {
-        return Evaluated::Refused(MISSING_MARK, at);
+        return Valued::Refused(MISSING_MARK, at);
     }
     let g = enumerator_value(kinds, numbers, w, v, c.moved(at + 1), next, room);
     match g {
-        Given::Refused(n, p) => Evaluated::Refused(n, p),
+        Given::Refused(n, p) => Valued::Refused(n, p),
         Given::Reads(e, value) => {
             let Next::Value(x) = value else {
-                return Evaluated::Refused(OUT_OF_RANGE, at);
+                return Valued::Refused(OUT_OF_RANGE, at);
             };
             let q = push_value(w, d, v, e, OPEN_LIST + first, name_at(numbers, at), x);
             match q {
-                Step::Done(s, i) => Evaluated::Done(s, x),
-                Step::Refused(n, p) => Evaluated::Refused(n, p),
+                Step::Done(s, i) => Valued::Done(s, x),
+                Step::Refused(n, p) => Valued::Refused(n, p),
             }
         }
     }
@@ -93,10 +99,10 @@ pub fn enumerators(
         }
         let r = enumerator(kinds, numbers, w, d, v, s, first, next, room);
         match r {
-            Evaluated::Refused(n, p) => {
+            Valued::Refused(n, p) => {
                 return Move::Refused(n, p);
             }
-            Evaluated::Done(e, x) => {
+            Valued::Done(e, x) => {
                 let after = e.at;
                 if kind_at(kinds, after) != COMMA {
                     return closed(kinds, e);

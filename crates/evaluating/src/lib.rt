@@ -6,8 +6,7 @@ ghost use Rattle.constants.specs.Reading.{tokens};
 ghost use Rattle.table.specs.Held.{Room};
 ghost use Rattle.evaluating.specs.Leaves.{Leaves};
 
-use constants::Evaluated;
-use encoding::refusals::TOO_DEEP;
+use encoding::refusals::{Reason, Refusal};
 use table::Cursor;
 
 // The constant here, with `room` levels of nesting left.
@@ -18,12 +17,15 @@ pub fn constant_here(
     v: &[i64],
     c: Cursor,
     room: u32,
-) -> Evaluated
+) -> Result<(Cursor, i64), Refusal>
     requires { Room c }
     ensures { Leaves (λ m. (levels (tokens kinds.now numbers.now) m room).constant) c w.now v.now (evaluated result) }
 {
     if room == 0 {
-        return Evaluated::Refused(TOO_DEEP, c.at);
+        return Err(Refusal {
+            reason: Reason::TooDeep,
+            at: c.at,
+        });
     }
     constants::constant_here(kinds, numbers, w, v, c)
 }

@@ -1,8 +1,9 @@
 use borrow.Author.Rules.{rules}
-use borrow.Author.Rules.{rules, sfits_of}
 use native.Mathlib.Omega.{arith}
 use mathlib.Core.Path.{ap}
 use mir.Facts.{to_z-of_z}
+use mir.Syntax.{w64}
+use mir.Val.{SFits}
 use Rattle.definition.specs.Enumeration.{enumerator_value}
 use Rattle.constants.specs.Here.{evaluated}
 use Rattle.enumerator_values.proofs.Steps.{shows_as}
@@ -20,10 +21,10 @@ overflow_add-at c = omega (arith, there c.kind_at.ensures c.if-kind_at-ne-EQUALS
 pub constant_here-r-requires : goal.constant_here-r-requires
 constant_here-r-requires c = room_at c.moved.ensures c.requires
 
-pub returns-in-Done : goal.returns-in-Done
+pub returns-in-Ok : goal.returns-in-Ok
 unfolding enumerator_value
-returns-in-Done c = rw (to_z-of_z (sfits_of c.in-Done.known_told-1-own.given.1.0.1)) (record { with = λ m d. record { run = λ t h. is+ _ _ c.kind_at.ensures c.if-kind_at-ne-EQUALS.false (shows_as (ap evaluated c.in-Done.is) (step-on c.moved.ensures (c.constant_here-r.ensures.with m d) h)) } })
+returns-in-Ok c = let f : SFits w64 c.in-Ok.z = search rules in rw (to_z-of_z f) (record { with = λ m d. record { run = λ t h. is+ _ _ c.kind_at.ensures c.if-kind_at-ne-EQUALS.false (shows_as (ap evaluated c.in-Ok.is) (step-on c.moved.ensures (c.constant_here-r.ensures.with m d) h)) } })
 
-pub returns-in-Refused : goal.returns-in-Refused
+pub returns-in-Err : goal.returns-in-Err
 unfolding enumerator_value
-returns-in-Refused c = record { with = λ m d. record { run = λ t h. is+ _ _ c.kind_at.ensures c.if-kind_at-ne-EQUALS.false (shows_as (ap evaluated c.in-Refused.is) (step-on c.moved.ensures (c.constant_here-r.ensures.with m d) h)) } }
+returns-in-Err c = rw c.from.ensures (record { with = λ m d. record { run = λ t h. is+ _ _ c.kind_at.ensures c.if-kind_at-ne-EQUALS.false (shows_as (ap evaluated c.in-Err.is) (step-on c.moved.ensures (c.constant_here-r.ensures.with m d) h)) } })

@@ -1,4 +1,3 @@
-use borrow.Author.Rules.{rules}
 use mathlib.Core.Path.{refl}
 use Rattle.table.proofs.Branch.{by}
 use Rattle.table.proofs.Shown.{no! }
