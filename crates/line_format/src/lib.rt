@@ -19,7 +19,7 @@ use encoding::storage::Storage;
 use printing::{
     LINE_FEED, SPACE, next_decimal, next_name, next_signed, next_word, put_byte, put_bytes,
 };
-use size_align::{Align, Size};
+use size_align::Size;
 use table::Declaration;
 
 // ---- words after a space
@@ -92,12 +92,12 @@ fn next_size(out: &mut [u8], n: usize, size: Size) -> usize
     }
 }
 
-fn next_align(out: &mut [u8], n: usize, a: Align) -> usize
+fn next_align(out: &mut [u8], n: usize, a: Option<u64>) -> usize
     ensures { Wrote (space ∷ or_dash (align a)) out.old n out.new result }
 {
     match a {
-        Align::Known(x) => next_decimal(out, n, x),
-        Align::Absent => next_word(out, n, b"-"),
+        Some(x) => next_decimal(out, n, x),
+        None => next_word(out, n, b"-"),
     }
 }
 
@@ -210,7 +210,7 @@ fn next_kind(out: &mut [u8], n: usize, kind: u32) -> usize
 // ---- lines of rows
 
 // A type line up to the alignment.
-pub fn put_head(out: &mut [u8], n: usize, row: u32, kind: u32, size: Size, a: Align) -> usize
+pub fn put_head(out: &mut [u8], n: usize, row: u32, kind: u32, size: Size, a: Option<u64>) -> usize
     ensures { Wrote (parted (bytes "type") (decimal row ∷ kind_bytes kind ∷ size_bytes size ∷ or_dash (align a) ∷ [])) out.old n out.new result }
 {
     let p = put_bytes(out, n, b"type");

@@ -9,7 +9,7 @@ use Rattle.definition.specs.Model.{Model}
 use Rattle.definition.specs.Size.{size_of}
 use Rattle.definition.specs.Align.{align_of}
 use Rattle.size_align.specs.declared.Size.{Size}
-use Rattle.size_align.specs.declared.Align.{Align}
+use Rattle.std.specs.Prelude.{Option}
 use Rattle.size_align.specs.Measure.{told, align, Extents}
 use Rattle.table.specs.Held.{InWides}
 use Rattle.printing.specs.Written.{Wrote, words}
@@ -44,7 +44,7 @@ module _ (m : Model) (t : Table) (row : ℕ) where
   abbrev head_words : List Bytes
   head_words = decimal row ∷ kind_word (row_at t row) ∷ size_word (size_of m t row) ∷ or_dash (align_of m t row) ∷ []
 
-  pub head_same : (a : Align) {kind : ℕ} {size : Size} → kind ≡ kind_of (row_at t row) → size ≡ told (size_of m t row) → align a ≡ align_of m t row
+  pub head_same : (a : Option ℕ) {kind : ℕ} {size : Size} → kind ≡ kind_of (row_at t row) → size ≡ told (size_of m t row) → align a ≡ align_of m t row
       → parted (bytes "type") (decimal row ∷ kind_bytes kind ∷ size_bytes size ∷ or_dash (align a) ∷ []) ≡ parted (bytes "type") head_words
   head_same a p q r = rw (p, q, r, kind-word (row_at t row), size_word_lem (size_of m t row))
 

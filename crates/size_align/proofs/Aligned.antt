@@ -10,7 +10,7 @@ use Rattle.definition.specs.Row.{Row, void, int, float, bool, pointer, array, co
 use Rattle.definition.specs.Table.{Table, row_at}
 use Rattle.definition.specs.Align.{larger, or_one, capped, align_by, align_within}
 use Rattle.lemmas.proofs.Branch.{eq_yes, eq_no}
-use Rattle.size_align.specs.declared.Align.TheVariants.{Known, Absent}
+use Rattle.std.proofs.Common.{Some, None}
 use Rattle.size_align.specs.Measure.{among, align, own_align, meant, Caps}
 
 module _ {a : ℕ} where
@@ -98,8 +98,8 @@ module _ (m : Model) (t : Table) (n levels : ℕ) (l : 0 < levels) {kind : ℕ} 
 
 -- as the code tells it at last
 module _ (a : ℕ) {o : Option ℕ} (e : meant a ≡ o) where
-  pub told-absent : a ≡ 0 → align Absent ≡ o
+  pub told-absent : a ≡ 0 → align None ≡ o
   told-absent z = sym (absent z) ∙ e
 
-  pub told-known : (a ≡ 0 → ⊥) → align (Known a) ≡ o
+  pub told-known : (a ≡ 0 → ⊥) → align (Some a) ≡ o
   told-known z = sym (present z) ∙ e

@@ -1,9 +1,8 @@
 -- Sizes as the code tells them, and as many of them as a bound says, for any limit of the code's numbers. Assumes nothing.
 use mathlib.Core.Path.{◌≡◌, refl, sym, ◌∙◌}
 use mathlib.Core.Option.{Option, none, some}
-use Prim.Native.Nat.{ℕ, zero, suc, ◌*◌, ◌/◌, ◌^◌, ◌<◌, ◌≤◌}
+use Prim.Native.Nat.{ℕ, zero, suc, ◌*◌, ◌^◌, ◌<◌, ◌≤◌}
 use native.Mathlib.Omega.{arith}
-use native.Mathlib.Nat.{div-lt_iff_lt-mul, le-div_iff_mul-le}
 use Rattle.definition.specs.Size.{times}
 use Rattle.arithmetic.proofs.Limit.{below, past, either}
 use Rattle.size_align.specs.declared.Size.{Size}
@@ -64,11 +63,3 @@ many-told z (big x p) (suc k) = big! (x * suc k) (omega arith)
 
 pub times-is : {r s t : Size} (o : Option ℕ) → s ≡ told o → (bound : ℕ) → s ≡ t → r ≡ many (2 ^ 64) t bound → r ≡ told (times o bound)
 times-is o h bound e f = f ∙ many-told (omega arith) (seen o (sym e ∙ h)) bound
-
--- the test that a product stays within the greatest number
-module _ {most a bound : ℕ} (z : bound ≡ 0 → ⊥) where
-  pub too_many : most / bound < a → most < a * bound
-  too_many h = (div-lt_iff_lt-mul {k = bound} {x = most} {y = a} (omega arith)).0 h
-
-  pub not_too_many : a ≤ most / bound → a * bound ≤ most
-  not_too_many h = (le-div_iff_mul-le {k = bound} {x = a} {y = most} (omega arith)).0 h

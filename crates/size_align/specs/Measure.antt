@@ -1,5 +1,5 @@
 -- What the code's sizes and alignments mean.
-use Rattle.std.specs.Prelude.{◌≡◌, List, Bool, true, false, ◌||◌, ℕ, ◌^◌, max, eqb, ltb, length}
+use Rattle.std.specs.Prelude.{◌≡◌, List, Bool, true, false, ◌||◌, ℕ, ◌^◌, max, eqb, ltb, length, Option as CodeOption, Some, None}
 use Rattle.std.proofs.Math.Option.{Option, none, some}
 use Rattle.definition.specs.Model.{Model as MeantModel}
 use Rattle.definition.specs.RowKind.{int_kind, float_kind, bool_kind, pointer_kind, struct_kind, union_kind, enum_kind}
@@ -13,8 +13,6 @@ use Rattle.model.specs.declared.Model.{Model}
 use Rattle.model.specs.Meaning.{model}
 use Rattle.size_align.specs.declared.Size.{Size}
 use Rattle.size_align.specs.declared.Size.TheVariants.{Known, Big, Unknown}
-use Rattle.size_align.specs.declared.Align.{Align}
-use Rattle.size_align.specs.declared.Align.TheVariants.{Known as Align-as-Known, Absent}
 
 -- an exact size as code tells it whose numbers stay below a limit
 unfoldable pub told_below : ℕ → Option ℕ → Size
@@ -62,9 +60,10 @@ pub record Extents (t : Table) (d : List ℕ) : Type 0 where
 pub record SizeIs (m : Model) (n : ℕ) (w d : List ℕ) (r : Size) : Type 0 where
   pub of : (t : Table) → InWords t w → Extents t d → r ≡ told (size_of (model m) t n)
 
-abbrev pub align : Align → Option ℕ
-align (Align-as-Known a) = some a
-align Absent = none
+-- an alignment of the code is the definition's
+abbrev pub align : CodeOption ℕ → Option ℕ
+align (Some a) = some a
+align None = none
 
 -- the alignment of a row that goes by no other and has no members, from its numbers
 unfoldable pub own_align : MeantModel → ℕ → ℕ → Option ℕ
@@ -105,5 +104,5 @@ pub record StrictestIs (levels pointer most members n : ℕ) (w d : List ℕ) (r
       → meant r ≡ largest (λ k. align_within levels m t k) (members_of t n (span_of (row_at t n)))
 
 -- The alignment for a whole model.
-pub record AlignIs (levels : ℕ) (m : Model) (members n : ℕ) (w d : List ℕ) (r : Align) : Type 0 where
+pub record AlignIs (levels : ℕ) (m : Model) (members n : ℕ) (w d : List ℕ) (r : CodeOption ℕ) : Type 0 where
   pub of : (t : Table) → InWords t w → Extents t d → members ≡ length t.members → align r ≡ align_within levels (model m) t n

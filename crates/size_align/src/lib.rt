@@ -3,6 +3,7 @@
 ghost use Rattle.std.specs.Prelude.{◌≡◌, min, max};
 ghost use Rattle.definition.specs.Limit.{align_levels};
 ghost use Rattle.definition.specs.Align.{or_one};
+ghost use Rattle.definition.specs.RowKind.{array_kind, typedef_kind, qualified_kind};
 ghost use Rattle.size_align.specs.Measure.{among, align, SizeIs, OwnIs, TimesIs, OwnAlignIs, ScalarIs, WithinIs, StrictestIs, AlignIs};
 
 use encoding::row_kinds::{
@@ -15,30 +16,11 @@ use table::{
 };
 
 // A size in bytes; one above 2^64 - 1 is `Big`.
-#[derive(Clone, Copy)]
+#[derive(Clone, Copy, PartialEq, Eq)]
 pub enum Size {
     Known(u64),
     Big,
     Unknown,
-}
-
-#[derive(Clone, Copy)]
-pub enum Align {
-    Known(u64),
-    Absent,
-}
-
-// A kind is one of three.
-fn among(kind: u32, a: u32, b: u32, c: u32) -> bool
-    ensures { result ≡ among kind a b c }
-{
-    if kind == a {
-        return true;
-    }
-    if kind == b {
-        return true;
-    }
-    kind == c
 }
 
 // As many of a size as a bound says.
@@ -46,55 +28,46 @@ fn times(size: Size, bound: u64) -> Size
     ensures { TimesIs size bound result }
 {
     match size {
+        Size::Known(s) => match s.checked_mul(bound) {
+            Some(n) => Size::Known(n),
+            None => Size::Big,
+        },
+        Size::Big if bound != 0 => Size::Big,
+        Size::Big => Size::Known(0),
         Size::Unknown => Size::Unknown,
-        Size::Big => {
-            if bound != 0 {
-                return Size::Big;
-            }
-            Size::Known(0)
-        }
-        Size::Known(s) => {
-            if bound == 0 {
-                return Size::Known(0);
-            }
-            if u64::MAX / bound < s {
-                return Size::Big;
-            }
-            Size::Known(s * bound)
-        }
     }
 }
 
 // The size of a row that goes by no other: its kind, flags and 64-bit number say it.
+#[tactic(auto, unfolding(crate::specs::Measure::among, crate::specs::Measure::own_size, crate::specs::Measure::told_below))]
 fn own_size(m: Model, kind: u32, flags: u32, extent: u64) -> Size
     ensures { OwnIs m kind flags extent result }
 {
-    if among(kind, INT_KIND, FLOAT_KIND, ENUM_KIND) {
-        return Size::Known(extent);
+    match kind {
+        INT_KIND | FLOAT_KIND | ENUM_KIND => Size::Known(extent),
+        BOOL_KIND => Size::Known(1),
+        POINTER_KIND => Size::Known(m.pointer),
+        STRUCT_KIND | UNION_KIND if flags != 0 => Size::Known(extent),
+        _ => Size::Unknown,
     }
-    if kind == BOOL_KIND {
-        return Size::Known(1);
-    }
-    if kind == POINTER_KIND {
-        return Size::Known(m.pointer);
-    }
-    if !among(kind, STRUCT_KIND, UNION_KIND, UNION_KIND) {
-        return Size::Unknown;
-    }
-    if flags == 0 {
-        return Size::Unknown;
-    }
-    Size::Known(extent)
 }
 
-// The size of a row. An array, a typedef and a qualified type go by a lower row.
+// An array, a typedef and a qualified type go by another row.
+#[tactic(auto, unfolding(crate::specs::Measure::among))]
+fn goes_by_another(kind: u32) -> bool
+    ensures { result ≡ among kind array_kind typedef_kind qualified_kind }
+{
+    matches!(kind, ARRAY_KIND | TYPEDEF_KIND | QUALIFIED_KIND)
+}
+
+// The size of a row. One that goes by another goes by a lower one.
 pub fn size_of(m: Model, w: &[u32], d: &[u64], n: u32) -> Size
     ensures { SizeIs m n w.now d.now result }
 {
     let kind = row_kind(w, n);
     let flags = row_flags(w, n);
     let extent = row_extent(d, n);
-    if !among(kind, ARRAY_KIND, TYPEDEF_KIND, QUALIFIED_KIND) {
+    if !goes_by_another(kind) {
         return own_size(m, kind, flags, extent);
     }
     let target = row_target(w, n);
@@ -111,62 +84,34 @@ pub fn size_of(m: Model, w: &[u32], d: &[u64], n: u32) -> Size
     times(under, extent)
 }
 
-fn at_least_one(x: u64) -> u64
-    ensures { result ≡ max x 1 }
+// An alignment that isn't there counts 1.
+pub fn or_one(a: Option<u64>) -> u64
+    ensures { result ≡ or_one (align a) }
 {
-    if x == 0 {
-        return 1;
-    }
-    x
+    a.unwrap_or(1)
 }
+
+// Below, an alignment is a number, 0 where there is none, and of the model there are the alignment of a pointer and the cap: a call then copies nothing. With
+// options in their place a scalar's alignment takes half as long again.
 
 // A scalar's alignment: its size, at least 1 and at most the cap.
 fn capped(most: u64, size: u64) -> u64
     ensures { result ≡ min (max size 1) most }
 {
-    let least = at_least_one(size);
-    if most < least {
-        return most;
-    }
-    least
+    size.max(1).min(most)
 }
-
-// The larger of two alignments, 0 where there is none.
-fn larger(a: u64, b: u64) -> u64
-    ensures { result ≡ max a b }
-{
-    if a < b {
-        return b;
-    }
-    a
-}
-
-// An alignment that isn't there counts 1.
-pub fn or_one(a: Align) -> u64
-    ensures { result ≡ or_one (align a) }
-{
-    let Align::Known(x) = a else {
-        return 1;
-    };
-    x
-}
-
-// Below, an alignment is a number, 0 where there is none, and of the model there are the alignment of a pointer and the cap: a call then copies nothing.
 
 // The alignment of a row that goes by no other and has no members.
+#[tactic(auto, unfolding(crate::specs::Measure::among, crate::specs::Measure::own_align, crate::specs::Measure::meant))]
 fn own_align(pointer: u64, most: u64, kind: u32, extent: u64) -> u64
     ensures { OwnAlignIs pointer most kind extent result }
 {
-    if among(kind, INT_KIND, FLOAT_KIND, ENUM_KIND) {
-        return capped(most, extent);
+    match kind {
+        INT_KIND | FLOAT_KIND | ENUM_KIND => capped(most, extent),
+        BOOL_KIND => 1,
+        POINTER_KIND => pointer,
+        _ => 0,
     }
-    if kind == BOOL_KIND {
-        return 1;
-    }
-    if kind == POINTER_KIND {
-        return pointer;
-    }
-    0
 }
 
 // The alignment of a row that goes by a scalar; 0 says nothing. Most members are such, and need no call.
@@ -174,15 +119,13 @@ fn scalar_align(pointer: u64, most: u64, w: &[u32], d: &[u64], n: u32, levels: u
     ensures { ScalarIs levels pointer most n w.now d.now result }
 {
     let mut row = n;
-    let mut left = levels;
-    while 0 < left {
+    for _ in 0..levels {
         let kind = row_kind(w, row);
-        if !among(kind, ARRAY_KIND, TYPEDEF_KIND, QUALIFIED_KIND) {
+        if !goes_by_another(kind) {
             let extent = row_extent(d, row);
             return own_align(pointer, most, kind, extent);
         }
         row = row_target(w, row);
-        left = left - 1;
     }
     0
 }
@@ -204,16 +147,20 @@ fn align_within(
         return 0;
     }
     let kind = row_kind(w, n);
-    if among(kind, STRUCT_KIND, UNION_KIND, UNION_KIND) {
-        let best = strictest(pointer, most, w, d, members, n, levels - 1);
-        return at_least_one(best);
+    match kind {
+        STRUCT_KIND | UNION_KIND => {
+            let best = strictest(pointer, most, w, d, members, n, levels - 1);
+            best.max(1)
+        }
+        ARRAY_KIND | TYPEDEF_KIND | QUALIFIED_KIND => {
+            let under = row_target(w, n);
+            align_within(pointer, most, w, d, members, under, levels - 1)
+        }
+        _ => {
+            let extent = row_extent(d, n);
+            own_align(pointer, most, kind, extent)
+        }
     }
-    if among(kind, ARRAY_KIND, TYPEDEF_KIND, QUALIFIED_KIND) {
-        let under = row_target(w, n);
-        return align_within(pointer, most, w, d, members, under, levels - 1);
-    }
-    let extent = row_extent(d, n);
-    own_align(pointer, most, kind, extent)
 }
 
 // The largest alignment of a row's members: from its first entry on, as many as it has that carry it.
@@ -229,40 +176,35 @@ fn strictest(
 ) -> u64
     ensures { StrictestIs levels pointer most members n w.now d.now result }
 {
-    let mut i = row_first(w, n) as usize;
+    let first = row_first(w, n) as usize;
     let mut left = row_count(w, n);
     let mut best = 0;
-    while i < members {
+    for i in first..members {
         if left == 0 {
             return best;
         }
         if member_row(w, i) != n {
-            i = i + 1;
             continue;
         }
         let ty = member_type(w, i);
-        left = left - 1;
-        i = i + 1;
+        left -= 1;
         let scalar = scalar_align(pointer, most, w, d, ty, levels);
         if scalar != 0 {
-            best = larger(best, scalar);
+            best = best.max(scalar);
             continue;
         }
         let a = align_within(pointer, most, w, d, members, ty, levels);
-        best = larger(best, a);
+        best = best.max(a);
     }
     best
 }
 
 // The alignment of a row; `members` is how many members the table has.
-pub fn align_of(m: Model, w: &[u32], d: &[u64], members: usize, n: u32) -> Align
+pub fn align_of(m: Model, w: &[u32], d: &[u64], members: usize, n: u32) -> Option<u64>
     ensures { AlignIs align_levels m members n w.now d.now result }
 {
-    let most = at_least_one(m.max_align);
+    let most = m.max_align.max(1);
     let pointer = capped(most, m.pointer);
     let a = align_within(pointer, most, w, d, members, n, Model::ALIGN_LEVELS);
-    if a == 0 {
-        return Align::Absent;
-    }
-    Align::Known(a)
+    if a == 0 { None } else { Some(a) }
 }

@@ -1,5 +1,5 @@
 use mathlib.Core.Path.{◌≡◌}
-use Prim.Native.Nat.{◌+◌, ◌-◌, ◌*◌}
+use Prim.Native.Nat.{◌+◌, ◌*◌}
 use lib.ListN.{length, drop}
 use Rattle.definition.specs.Model.{Model}
 use Rattle.definition.specs.Table.{Table, carrying}
@@ -18,6 +18,3 @@ decreases-strictest l = 2 * l.levels + 1
 abbrev pub invariant-strictest-loop-i : goal.invariant-strictest-loop-i
 invariant-strictest-loop-i l = (m : Model) → Caps m l.pointer l.most → (t : Table) → InWords t l.w → Extents t l.d → l.members ≡ length t.members
     → Gathers (λ k. align_within l.levels m t k) l.n t.members l.i l.left (meant l.best) (largest (λ k. align_within l.levels m t k) (carrying (λ x. x.row) l.n l.initial.left (drop l.initial.i t.members)))
-
-abbrev pub decreases-strictest-loop-i : goal.decreases-strictest-loop-i
-decreases-strictest-loop-i l = l.members - l.i

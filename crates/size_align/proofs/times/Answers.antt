@@ -1,26 +1,21 @@
+use mathlib.Core.Path.{refl, ap, ◌∙◌}
 use Prim.Native.Nat.{◌^◌}
 use native.Mathlib.Omega.{arith}
-use mathlib.Core.Path.{refl}
-use Rattle.size_align.proofs.Told.{known!, big!, none-known, some-big, times-is, too_many, not_too_many}
+use Rattle.size_align.specs.declared.Size.TheVariants.{Known}
+use Rattle.size_align.proofs.Told.{known!, big!, some-big, times-is}
 use Rattle.size_align.proofs.times.Goals as goal
 
-pub returns-then-bound-ne0 : goal.returns-then-bound-ne0
-returns-then-bound-ne0 c = record { of = λ o h. times-is o h _ c.in-Big.is (some-big (2 ^ 64) c.args.bound c.if-bound-ne0.true) }
+pub returns-in-Some : goal.returns-in-Some
+returns-in-Some c = record { of = λ o h. times-is o h _ c.in-Known.is (ap Known c.in-Some.ensures.1 ∙ known! _ c.in-Some.ensures.0) }
 
-pub returns-then-bound-eq0 : goal.returns-then-bound-eq0
-returns-then-bound-eq0 c = record { of = λ o h. times-is o h _ c.in-Known.is (none-known _ (omega arith) c.if-bound-eq0.true) }
+pub returns-in-None : goal.returns-in-None
+returns-in-None c = record { of = λ o h. times-is o h _ c.in-Known.is (big! _ (omega (arith, c.in-None.ensures))) }
 
-pub returns-then-bound-s : goal.returns-then-bound-s
-returns-then-bound-s c = record { of = λ o h. times-is o h _ c.in-Known.is (big! _ (too_many c.if-bound-eq0.false c.if-bound-s.true)) }
+pub returns-in-Big : goal.returns-in-Big
+returns-in-Big c = record { of = λ o h. times-is o h _ c.in-Big.is (some-big (2 ^ 64) c.args.bound c.if-bound-ne0.true) }
 
-pub overflow_mul-result : goal.overflow_mul-result
-overflow_mul-result c = omega (arith, not_too_many c.if-bound-eq0.false c.if-bound-s.false)
+pub returns-in-Big-2 : goal.returns-in-Big-2
+returns-in-Big-2 c = record { of = λ o h. times-is o h _ c.in-Big-2.is (rw c.if-bound-ne0.false) }
 
 pub returns-in-Unknown : goal.returns-in-Unknown
 returns-in-Unknown c = record { of = λ o h. times-is o h _ c.in-Unknown.is refl }
-
-pub returns-else-bound-ne0 : goal.returns-else-bound-ne0
-returns-else-bound-ne0 c = record { of = λ o h. times-is o h _ c.in-Big.is (rw c.if-bound-ne0.false) }
-
-pub returns-else-bound-s : goal.returns-else-bound-s
-returns-else-bound-s c = record { of = λ o h. times-is o h _ c.in-Known.is (known! _ (omega (arith, not_too_many c.if-bound-eq0.false c.if-bound-s.false))) }
