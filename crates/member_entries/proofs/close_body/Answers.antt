@@ -8,4 +8,4 @@ pub returns-in-Ok : goal.returns-in-Ok
 returns-in-Ok c = record { with = λ v. record { run = λ t h. closed-laid _ _ _ _ (c.layout-l.ensures.of t v h) (ap (λ z. sized c.args.c z) c.in-Ok.is) c.fields_only.ensures c.field_count-count.ensures } }
 
 pub returns-in-Err : goal.returns-in-Err
-returns-in-Err c = record { with = λ v. record { run = λ t h. closed-refused _ _ _ _ (c.layout-l.ensures.of t v h) (ap (λ z. sized c.args.c z) c.in-Err.is) } }
+returns-in-Err c = rw c.from.ensures (record { with = λ v. record { run = λ t h. closed-refused _ _ _ _ (c.layout-l.ensures.of t v h) (ap (λ z. sized c.args.c z) c.in-Err.is) } })
