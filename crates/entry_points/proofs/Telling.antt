@@ -33,8 +33,6 @@ use Rattle.lemmas.proofs.Branch.{yes, nay}
 use Rattle.spellings.specs.Chain.{HeadCount, few, many}
 use Rattle.name_table.specs.Striking.{PlacesBelow}
 use Rattle.lexer.specs.Columns as columns
-use Rattle.lexer.specs.declared.Lexing.{Lexing}
-use Rattle.lexer.specs.declared.Lexing.TheVariants.{Done as Lexing-as-Done, Refused as Lexing-as-Refused}
 use Rattle.clearing.specs.Slices.{lent}
 use Rattle.entry_points.proofs.Front.{fresh-front, front_zeros, front-filled}
 use Rattle.entry_points.specs.Answers.{lexed, first_cursor, Read, read_tokens, Scratch, FitsIf, Asked, Cleared, as_long, concluded, rejected_at, out, shown, answered, Answers}
@@ -63,26 +61,23 @@ padded-there : (n c : ℕ) (xs ys : List ℕ) → ys ≡ columns.padded n xs →
 unfolding columns.padded
 padded-there n c xs ys e l = rw e (omega (arith, length-append xs (replicate (n - length xs) 0)))
 
-module _ (text : Bytes) {ks ps ns : List ℕ} {r : Lexing} where
-  pub lexes : columns.Lexes (tokenize text) r ks ps ns → {count : ℕ} → r ≡ Lexing-as-Done count → Lexes text ks ps ns count
-  lexes (columns.stop m at t e) q = let y : ◌≡◌ {A = ℕ} 0 1 = cc in absurd (omega arith)
-  lexes (columns.done x t e i j o) {count} q =
-      let h = (tokenize-columns text).of x t in
-      let l : length x.places ≡ count = cc in
-      let li : length x.tokens.kinds ≡ count = omega (arith, h.places) in
-      let lo : length x.tokens.numbers ≡ count = omega (arith, h.places, h.numbers) in
+module _ (text : Bytes) {ks ps ns : List ℕ} where
+  pub lexes : {count : ℕ} → columns.Tokens (tokenize text) count ks ps ns → Lexes text ks ps ns count
+  lexes {count} t =
+      let x = t.lexed in
+      let c = t.counted in
+      let h = (tokenize-columns text).of x t.same in
+      let l : length x.places ≡ count = sym c in
+      let li : length x.tokens.kinds ≡ count = omega (arith, l, h.places) in
+      let lo : length x.tokens.numbers ≡ count = omega (arith, l, h.places, h.numbers) in
       record {
         tokens = x;
-        says = t;
-        same = rw (padded-front (length ks) count _ _ i li, padded-front (length ps) count _ _ j l, padded-front (length ns) count _ _ o lo, ← ((tokenize-end text).of x t));
-        kinds = padded-there (length ks) count _ _ i li;
-        places = padded-there (length ps) count _ _ j l;
-        numbers = padded-there (length ns) count _ _ o lo;
+        says = t.same;
+        same = rw (padded-front (length ks) count _ _ t.kinds li, padded-front (length ps) count _ _ t.places l, padded-front (length ns) count _ _ t.numbers lo, ← ((tokenize-end text).of x t.same));
+        kinds = padded-there (length ks) count _ _ t.kinds li;
+        places = padded-there (length ps) count _ _ t.places l;
+        numbers = padded-there (length ns) count _ _ t.numbers lo;
       }
-
-  pub lexes_no : columns.Lexes (tokenize text) r ks ps ns → {m at : ℕ} → r ≡ Lexing-as-Refused m at → tokenize text ≡ refused m at
-  lexes_no (columns.stop m' at' t e) {m} {at} q = let y : m' ≡ m = cc in let o : at' ≡ at = cc in t ∙ rw (y, o)
-  lexes_no (columns.done x t e i j o) q = let y : ◌≡◌ {A = ℕ} 0 1 = cc in absurd (omega arith)
 
 -- what a text asks for
 pub asks_own : (n : ℕ) → Asked n n

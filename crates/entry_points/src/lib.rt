@@ -21,7 +21,7 @@ use encoding::refusals::{BAD_CALL, NOT_ONE_DECLARATION};
 use encoding::regions::{SIGNEDS, WIDES, WORDS};
 use encoding::token_kinds::END;
 use erasing::clear_left;
-use lexer::{Lexing, lex};
+use lexer::lex;
 use model::Model;
 use name_table::fill_names;
 use scan::line_column;
@@ -237,9 +237,8 @@ fn read_columns(
     requires encodes { Encodes new_table first_cursor w.old d.old v.old }
     ensures { Read (read_with (model m) (entry_of entry) text.now) w.old d.old v.old result w.new d.new v.new }
 {
-    let r = lex(text, kinds, places, numbers, links, heads);
-    match r {
-        Lexing::Done(count) => read_tokens(
+    match lex(text, kinds, places, numbers, links, heads) {
+        Ok(count) => read_tokens(
             entry,
             &kinds[..count],
             &places[..count],
@@ -251,7 +250,7 @@ fn read_columns(
             d,
             v,
         ),
-        Lexing::Refused(n, p) => Reading::Refused(n, p),
+        Err(refusal) => Reading::Refused(u32::from(refusal.reason), refusal.at),
     }
 }
 

@@ -1,49 +1,49 @@
 -- What `lex` answers. Assumes nothing.
 use mathlib.Core.Path.{◌≡◌, refl, sym, ap, ◌∙◌}
 use mathlib.Core.Bool.{Bool, true, false, ◌&&◌}
-use mathlib.Core.List.{List}
-use Prim.Native.Nat.{ℕ, ◌+◌, ◌≤◌, ◌<◌}
+use mathlib.Core.List.{List, [], ◌∷◌}
+use Prim.Native.Nat.{ℕ, suc, ◌≤◌, ◌<◌}
+use Rattle.std.specs.List.{fold}
 use native.Mathlib.Omega.{arith}
-use borrow.Author.Tests.{lt-ltb, le-ltb, leb-true, leb-false, le-leb, lt-leb}
-use lib.Dec.{leb, ltb}
+use borrow.Author.Tests.{leb-true, leb-false}
+use lib.Dec.{leb, leb-suc-suc, leb-suc-zero}
 use lib.ListN.{length, length-map}
 use Rattle.definition.specs.Answer.{got, refused}
-use Rattle.definition.specs.Text.{Bytes, byte_at}
-use Rattle.definition.specs.Scan.{from, before}
+use Rattle.definition.specs.Text.{Bytes}
+use Rattle.definition.specs.Scan.{before}
 use Rattle.definition.specs.Token.{columns}
 use Rattle.definition.specs.Cut.{Cutting, cut, above_ascii, check_bytes, tokenize}
 use Rattle.definition.specs.Limit.{max_text}
-use Rattle.definition_laws.proofs.LexerProgress.{first-from}
 use Rattle.definition_laws.proofs.Same.{then-got, then-refused}
 use Rattle.lemmas.proofs.Branch.{lt_yes, lt_no}
-use Rattle.scan.proofs.Going.{moves, stops, ends}
 use Rattle.lexer.specs.Columns.{Fills, Lexes}
-use Rattle.lexer.specs.declared.Lexing.{Lexing}
-use Rattle.lexer.specs.declared.Lexing.TheVariants.{Done}
+use Rattle.std.specs.Prelude.{Result, Ok, Err}
+use Rattle.encoding.specs.declared.refusals.Refusal.{Refusal}
 
-pub above-is : (text : Bytes) (i : ℕ) → above_ascii (from text i) ≡ ltb 127 (byte_at text i)
-unfolding above_ascii
-above-is text i = ap (λ (b : ℕ). ltb 127 b) (first-from text i)
+above-here : (b : ℕ) (w : Bytes) → 127 < b → before above_ascii (b ∷ w) ≡ 0
+unfolding before above_ascii
+above-here b w h = lt_yes 127 b _ _ h
 
--- the bytes before an offset, and whether all of them are below 128
-pub data Seen (text : Bytes) (i : ℕ) (ascii : Bool) : Type 0 where
-  all : ascii ≡ true → 0 + before above_ascii (from text 0) ≡ i + before above_ascii (from text i) → Seen text i ascii
-  some : ascii ≡ false → before above_ascii (from text 0) < i → Seen text i ascii
+above-later : (b : ℕ) (w : Bytes) → b ≤ 127 → before above_ascii (b ∷ w) ≡ suc (before above_ascii w)
+unfolding before above_ascii
+above-later b w h = lt_no 127 b _ _ h
 
-module _ (text : Bytes) (i : ℕ) where
-  pub seen_more : (a : Bool) → Seen text i a → i < length text → Seen text (i + 1) (a && leb (byte_at text i) 127)
-  seen_more a (Seen.all e h) l = go (leb (byte_at text i) 127) refl
-    where
-      go : (b : Bool) → leb (byte_at text i) 127 ≡ b → Seen text (i + 1) (a && b)
-      go true t = Seen.all (rw e) (moves above_ascii text 0 i l (above-is text i ∙ le-ltb 127 (byte_at text i) (leb-true (byte_at text i) 127 t)) h)
-      go false t =
-          let s = stops above_ascii text 0 i l (above-is text i ∙ lt-ltb 127 (byte_at text i) (leb-false (byte_at text i) 127 t)) h in
-          Seen.some (rw e) (omega arith)
-  seen_more a (Seen.some e h) l = Seen.some (rw e) (omega arith)
+-- whether no byte is above 127
+abbrev pub both : Bool → ℕ → Bool
+both a b = a && leb b 127
 
-  pub seen_all : (a : Bool) → Seen text i a → i ≤ length text → length text ≤ i → a ≡ leb (length text) (before above_ascii (from text 0))
-  seen_all a (Seen.all e h) l m = e ∙ sym (le-leb (length text) (before above_ascii (from text 0)) (let s = ends above_ascii text 0 i m h in omega arith))
-  seen_all a (Seen.some e h) l m = e ∙ sym (lt-leb (length text) (before above_ascii (from text 0)) (omega arith))
+both-false : (w : Bytes) → fold both false w ≡ false
+both-false [] = refl
+both-false (b ∷ w) = both-false w
+
+pub both-all : (w : Bytes) → fold both true w ≡ leb (length w) (before above_ascii w)
+unfolding before
+both-all [] = refl
+both-all (b ∷ w) = by (leb b 127) refl (both-all w)
+  where
+    by : (t : Bool) → leb b 127 ≡ t → fold both true w ≡ leb (length w) (before above_ascii w) → fold both t w ≡ leb (length (b ∷ w)) (before above_ascii (b ∷ w))
+    by true e h = h ∙ rw (above-later b w (leb-true b 127 e)) (sym (leb-suc-suc (length w) (before above_ascii w)))
+    by false e h = both-false w ∙ rw (above-here b w (leb-false b 127 e)) (sym (leb-suc-zero (length w)))
 
 -- the definition's answer
 module _ (text : Bytes) where
@@ -71,8 +71,15 @@ module _ (text : Bytes) where
     cut-got h s q = lt_no max_text (length text) _ _ fits ∙ (then-got (check_bytes text) _ (before above_ascii text) (checked h) ∙ then-got (cut text) _ s q)
 
 -- a text that is not too long and has no byte above 127, with what the loop left
-module _ (text : Bytes) (fits : length text ≤ max_text) (n : ℕ) (e : n ≡ before above_ascii text) (ascii : length text ≤ n) {r : Lexing} {ks ps ns : List ℕ} where
-  pub filled : Fills text r ks ps ns → Lexes (tokenize text) r ks ps ns
+module _ (text : Bytes) (fits : length text ≤ max_text) (n : ℕ) (e : n ≡ before above_ascii text) (ascii : length text ≤ n) (ks ps ns : List ℕ) where
+  pub filled : (r : Result ℕ Refusal) → Fills text r ks ps ns → Lexes (tokenize text) r ks ps ns
   unfolding columns
-  filled (Fills.done s q p h) = Lexes.done (columns s.tokens (length text)) (cut-got text fits n e ascii s q) (p ∙ ap (λ (i : ℕ). Done i) (sym (length-map s.tokens (λ t. t.place)))) h.kinds h.places h.numbers
-  filled (Fills.stop m at q p) = Lexes.stop m at (cut-refused text fits n e ascii m at q) p
+  filled (Ok count) f = record {
+    lexed = columns f.end.tokens (length text);
+    same = cut-got text fits n e ascii f.end f.same;
+    counted = f.counted ∙ sym (length-map f.end.tokens (λ t. t.place));
+    kinds = f.holds.kinds;
+    places = f.holds.places;
+    numbers = f.holds.numbers;
+  }
+  filled (Err r) f = cut-refused text fits n e ascii _ _ f

@@ -11,10 +11,12 @@ use Rattle.definition.specs.Text.{Bytes}
 use Rattle.definition.specs.Token.{Token}
 use Rattle.definition.specs.Cut.{Cutting, push, cut_next, cut_all, cut}
 use Rattle.lemmas.proofs.Branch.{le_yes, le_no}
-use Rattle.next_token.specs.Pieces.{state, applied, CutsOn}
-use Rattle.next_token.specs.declared.Piece.{Piece}
-use Rattle.next_token.specs.declared.Piece.TheVariants.{Skip, Token as Piece-as-Token, Name, Refused}
-use Rattle.lexer.specs.Columns.{padded, Holds, Fills, Room, Zero}
+use Rattle.std.specs.Prelude.{Ok, Err}
+use Rattle.encoding.specs.Refusals.{number_of}
+use Rattle.encoding.specs.declared.refusals.Refusal.{Refusal}
+use Rattle.next_token.specs.Pieces.{state, CutsOn, Goes}
+use Rattle.next_token.specs.declared.Piece.TheVariants.{Skip, Token as Piece-as-Token, Name}
+use Rattle.lexer.specs.Columns.{padded, Holds, Filled, Room, Zero}
 use Rattle.definition.specs.Kind.{is_name}
 use Rattle.spellings.specs.Chain.{HeadCount, Rising, Chained}
 use Rattle.spellings.proofs.Kept.{chained-plain}
@@ -22,7 +24,6 @@ use Rattle.lexer.specs.Names.{Finds, Searches, Stores}
 use Rattle.definition.specs.Spelling.{known_name}
 use Rattle.lemmas.proofs.Lists.{get_d_replicate_default}
 use Rattle.definition_laws.proofs.Same.{then-got, then-refused}
-use Rattle.lexer.specs.declared.Lexing.TheVariants.{Done}
 use Rattle.lexer.specs.Going.{Going, Linked}
 use Rattle.lexer.proofs.Meeting.{plain_more, met}
 
@@ -63,48 +64,29 @@ module _ (text : Bytes) (rounds : ℕ) (s : Cutting) (whole : Answer Cutting) (e
   cut-stops h n p q = round ∙ (le_no _ _ _ _ h ∙ then-refused (cut_next text s) (cut_all (rounds - 1) text) n p q)
 
 -- a piece
-module _ (text : Bytes) (at : ℕ) (line : Bool) (count : ℕ) (ks ps ns : List ℕ) (whole : Answer Cutting) (g : Going text at line count ks ps ns whole)
-    (inside : at < length text) (r : Piece) (cuts : CutsOn (cut_next text) text at line r) where
-  does : cut_next text (state at line g.tokens g.names) ≡ applied text r (state at line g.tokens g.names)
-  does = cuts.same g.tokens g.names
+module _ (text : Bytes) (at : ℕ) (line : Bool) (count : ℕ) (ks ps ns : List ℕ) (whole : Answer Cutting) (g : Going text at line count ks ps ns whole) (inside : at < length text) where
+  pub go-refused : (e : Refusal) → CutsOn (cut_next text) text at line (Err e) → whole ≡ refused (number_of e.reason) e.at
+  go-refused e cuts = cut-stops text g.rounds (state at line g.tokens g.names) whole g.enough g.same inside _ _ (sym (cuts g.tokens g.names))
 
-  pub go-refused : (n p : ℕ) → r ≡ Refused n p → whole ≡ refused n p
-  go-refused n p e = cut-stops text g.rounds (state at line g.tokens g.names) whole g.enough g.same inside n p (does ∙ ap (λ (x : Piece). applied text x (state at line g.tokens g.names)) e)
-
-  pub go-skip : (to : ℕ) (starts : Bool) → r ≡ Skip to starts → Going text to starts count ks ps ns whole
-  go-skip to starts e =
-      let o : at < to = (rw e at cuts.on) in
-      record {
-        tokens = g.tokens;
-        names = g.names;
-        rounds = g.rounds - 1;
-        enough = (let k = g.enough in omega arith);
-        same = cut_on text g.rounds (state at line g.tokens g.names) whole g.enough g.same inside (state to starts g.tokens g.names) (does ∙ ap (λ (x : Piece). applied text x (state at line g.tokens g.names)) e);
-        counted = g.counted;
-        few = (let k = g.few in omega arith);
-        holds = g.holds;
-        named = g.named;
-      }
-
-  pub on-skip : (to : ℕ) (starts : Bool) → r ≡ Skip to starts → at < to
-  on-skip to starts e = rw e at cuts.on
-
-  pub on-token : (k n to : ℕ) → r ≡ Piece-as-Token k n to → at < to
-  on-token k n to e = rw e at cuts.on
-
-  pub plain-token : (k n to : ℕ) → r ≡ Piece-as-Token k n to → is_name k ≡ false
-  plain-token k n to e = rw e at cuts.fine
-
-  pub on-name : (k to : ℕ) → r ≡ Name k to → at < to
-  on-name k to e = rw e at cuts.on
+  pub go-skip : (to : ℕ) (starts : Bool) → CutsOn (cut_next text) text at line (Ok (Skip to starts)) → at < to → Going text to starts count ks ps ns whole
+  go-skip to starts cuts o = record {
+    tokens = g.tokens;
+    names = g.names;
+    rounds = g.rounds - 1;
+    enough = (let k = g.enough in omega arith);
+    same = cut_on text g.rounds (state at line g.tokens g.names) whole g.enough g.same inside (state to starts g.tokens g.names) (sym (cuts g.tokens g.names));
+    counted = g.counted;
+    few = (let k = g.few in omega arith);
+    holds = g.holds;
+    named = g.named;
+  }
 
   pub go-count : Room text ks ps ns → (count < length ks) × (count < length ps) × (count < length ns)
   go-count room = let w = g.few in let a = room.fits in let b = room.kinds in let c = room.places in let d = room.numbers in (omega arith, omega arith, omega arith)
 
-  pub go_search : (k to : ℕ) → r ≡ Name k to → Room text ks ps ns → (ls : List ℕ) (heads : ℕ) → HeadCount heads → heads + 2 * length text ≤ length ls → Chained text ks ns ls heads count
+  pub go_search : (to : ℕ) → at < to → to ≤ length text → Room text ks ps ns → (ls : List ℕ) (heads : ℕ) → HeadCount heads → heads + 2 * length text ≤ length ls → Chained text ks ns ls heads count
       → Searches text ks ps ns ls heads count at to
-  go_search k to e room ls heads l long chained =
-      let f = (rw e at cuts.fine) in
+  go_search to o p room ls heads l long chained =
       let w = go-count room in
       let y = g.few in
       record {
@@ -114,53 +96,45 @@ module _ (text : Bytes) (at : ℕ) (line : Bool) (count : ℕ) (ks ps ns : List 
         hashes = l;
         links = omega (arith, y, long, inside);
         few = g.few;
-        on = on-name k to e;
-        ends = f.1;
+        on = o;
+        ends = p;
         short = room.fits;
         inside = λ j p q. (g.named.good j p q).inside;
         chained = chained;
       }
 
   module _ (room : Room text ks ps ns) (ks' ps' ns' : List ℕ) where
-    pub go-token : (k n to : ℕ) → r ≡ Piece-as-Token k n to → ks' ≡ set ks count k → ps' ≡ set ps count at → ns' ≡ set ns count n → Going text to false (count + 1) ks' ps' ns' whole
+    pub go-token : (k n to : ℕ) → CutsOn (cut_next text) text at line (Ok (Piece-as-Token k n to)) → at < to → is_name k ≡ false → ks' ≡ set ks count k → ps' ≡ set ps count at → ns' ≡ set ns count n → Going text to false (count + 1) ks' ps' ns' whole
     unfolding push
-    go-token k n to e a b c =
-        let o : at < to = (rw e at cuts.on) in
-        let f = (rw e at cuts.fine) in
+    go-token k n to cuts o f a b c =
         let w = g.few in
-        let lk : count < length ks = (let x = room.kinds in let y = room.fits in omega arith) in
-        let lp : count < length ps = (let x = room.places in let y = room.fits in omega arith) in
-        let ln : count < length ns = (let x = room.numbers in let y = room.fits in omega arith) in
+        let l = go-count room in
         rw (a, b, c) (record {
           tokens = g.tokens ++ record { kind = k; place = at; number = n } ∷ [];
           names = g.names;
           rounds = g.rounds - 1;
           enough = (let z = g.enough in omega arith);
-          same = cut_on text g.rounds (state at line g.tokens g.names) whole g.enough g.same inside _ (does ∙ ap (λ (x : Piece). applied text x (state at line g.tokens g.names)) e);
+          same = cut_on text g.rounds (state at line g.tokens g.names) whole g.enough g.same inside _ (sym (cuts g.tokens g.names));
           counted = (let z = g.counted in rw length-append (omega arith));
           few = omega arith;
-          holds = holds_more g.tokens ks ps ns count (record { kind = k; place = at; number = n }) g.holds g.counted lk lp ln;
-          named = plain_more text ks ns count g.names k n g.named lk ln f;
+          holds = holds_more g.tokens ks ps ns count (record { kind = k; place = at; number = n }) g.holds g.counted l.0 l.1 l.2;
+          named = plain_more text ks ns count g.names k n g.named l.0 l.2 f;
         })
 
-    pub go-name : (k n to : ℕ) → r ≡ Name k to → Finds text ks ns count at to n → ks' ≡ set ks count k → ps' ≡ set ps count at → ns' ≡ set ns count n → Going text to false (count + 1) ks' ps' ns' whole
-    go-name k n to e finds a b c =
-        let o : at < to = (rw e at cuts.on) in
-        let f = (rw e at cuts.fine) in
+    pub go-name : (k n to : ℕ) → CutsOn (cut_next text) text at line (Ok (Name k to)) → at < to → is_name k ≡ true → to ≤ length text → Finds text ks ns count at to n → ks' ≡ set ks count k → ps' ≡ set ps count at → ns' ≡ set ns count n → Going text to false (count + 1) ks' ps' ns' whole
+    go-name k n to cuts o f p finds a b c =
         let w = g.few in
-        let lk : count < length ks = (let x = room.kinds in let y = room.fits in omega arith) in
-        let lp : count < length ps = (let x = room.places in let y = room.fits in omega arith) in
-        let ln : count < length ns = (let x = room.numbers in let y = room.fits in omega arith) in
-        let m = met text ks ns count at to k n line g.tokens g.names g.named lk ln o f.1 room.fits f.0 finds in
+        let l = go-count room in
+        let m = met text ks ns count at to k n line g.tokens g.names g.named l.0 l.2 o p room.fits f finds in
         rw (a, b, c) (record {
           tokens = g.tokens ++ record { kind = k; place = at; number = n } ∷ [];
           names = m.names';
           rounds = g.rounds - 1;
           enough = (let z = g.enough in omega arith);
-          same = cut_on text g.rounds (state at line g.tokens g.names) whole g.enough g.same inside _ (does ∙ (ap (λ (x : Piece). applied text x (state at line g.tokens g.names)) e ∙ ap (λ (s : Cutting). got s) m.same));
+          same = cut_on text g.rounds (state at line g.tokens g.names) whole g.enough g.same inside _ (sym (cuts g.tokens g.names) ∙ ap (λ (s : Cutting). got s) m.same);
           counted = (let z = g.counted in rw length-append (omega arith));
           few = omega arith;
-          holds = holds_more g.tokens ks ps ns count (record { kind = k; place = at; number = n }) g.holds g.counted lk lp ln;
+          holds = holds_more g.tokens ks ps ns count (record { kind = k; place = at; number = n }) g.holds g.counted l.0 l.1 l.2;
           named = m.named;
         })
 
@@ -183,9 +157,13 @@ go-start text ks ps ns z = record {
   named = record { good = λ j p q. absurd (omega arith); stands = λ w h. absurd (h refl) };
 }
 
-pub go-done : (text : Bytes) (at : ℕ) (line : Bool) (count : ℕ) (ks ps ns : List ℕ) → Going text at line count ks ps ns (cut text) → length text ≤ at → Fills text (Done count) ks ps ns
-go-done text at line count ks ps ns g h =
-    Fills.done (state at line g.tokens g.names) (cut-ends text g.rounds (state at line g.tokens g.names) (cut text) g.enough g.same h) (ap (λ (n : ℕ). Done n) g.counted) g.holds
+pub go-done : (text : Bytes) (at : ℕ) (line : Bool) (count : ℕ) (ks ps ns : List ℕ) → Going text at line count ks ps ns (cut text) → length text ≤ at → Filled text count ks ps ns
+go-done text at line count ks ps ns g h = record {
+  end = state at line g.tokens g.names;
+  same = cut-ends text g.rounds (state at line g.tokens g.names) (cut text) g.enough g.same h;
+  counted = g.counted;
+  holds = g.holds;
+}
 
 -- lengths that are kept
 long-set : (l l' : List ℕ) (i v : ℕ) → l' ≡ set l i v → length l' ≡ length l
@@ -216,45 +194,35 @@ link_start text ks ps ns ls heads room z l long e = record {
   chained = chained-start text ks ns ls (length ls) heads e;
 }
 
-module _ (text : Bytes) (at : ℕ) (line : Bool) (count : ℕ) (ks ps ns ls : List ℕ) (heads : ℕ) (whole : Answer Cutting) (g : Linked text at line count ks ps ns ls heads whole)
-    (inside : at < length text) (r : Piece) (cuts : CutsOn (cut_next text) text at line r) where
-  pub link_refused : (n p : ℕ) → r ≡ Refused n p → whole ≡ refused n p
-  link_refused = go-refused text at line count ks ps ns whole g.going inside r cuts
+module _ {text : Bytes} {at : ℕ} {line : Bool} {count : ℕ} {ks ps ns ls : List ℕ} {heads : ℕ} {whole : Answer Cutting} (g : Linked text at line count ks ps ns ls heads whole) (inside : at < length text) where
+  pub link_refused : (e : Refusal) → CutsOn (cut_next text) text at line (Err e) → whole ≡ refused (number_of e.reason) e.at
+  link_refused = go-refused text at line count ks ps ns whole g.going inside
 
-  pub link_skip : (to : ℕ) (starts : Bool) → r ≡ Skip to starts → Linked text to starts count ks ps ns ls heads whole
-  link_skip to starts e = record { going = go-skip text at line count ks ps ns whole g.going inside r cuts to starts e; room = g.room; hashes = g.hashes; links = g.links; chained = g.chained }
-
-  pub skip-on : (to : ℕ) (starts : Bool) → r ≡ Skip to starts → at < to
-  skip-on = on-skip text at line count ks ps ns whole g.going inside r cuts
-
-  pub token-on : (k n to : ℕ) → r ≡ Piece-as-Token k n to → at < to
-  token-on = on-token text at line count ks ps ns whole g.going inside r cuts
-
-  pub name-on : (k to : ℕ) → r ≡ Name k to → at < to
-  name-on = on-name text at line count ks ps ns whole g.going inside r cuts
+  pub link_skip : (to : ℕ) (starts : Bool) → CutsOn (cut_next text) text at line (Ok (Skip to starts)) → at < to → Linked text to starts count ks ps ns ls heads whole
+  link_skip to starts cuts o = record { going = go-skip text at line count ks ps ns whole g.going inside to starts cuts o; room = g.room; hashes = g.hashes; links = g.links; chained = g.chained }
 
   pub link_count : (count < length ks) × (count < length ps) × (count < length ns)
-  link_count = go-count text at line count ks ps ns whole g.going inside r cuts g.room
+  link_count = go-count text at line count ks ps ns whole g.going inside g.room
 
-  pub link_search : (k to : ℕ) → r ≡ Name k to → Searches text ks ps ns ls heads count at to
-  link_search k to e = go_search text at line count ks ps ns whole g.going inside r cuts k to e g.room ls heads g.hashes g.links g.chained
+  pub link_search : (k to : ℕ) → Goes text at (Name k to) → Searches text ks ps ns ls heads count at to
+  link_search k to o = go_search text at line count ks ps ns whole g.going inside to o.0 o.2 g.room ls heads g.hashes g.links g.chained
 
-  pub link_token : (k n to : ℕ) (ks' ps' ns' : List ℕ) → r ≡ Piece-as-Token k n to → ks' ≡ set ks count k → ps' ≡ set ps count at → ns' ≡ set ns count n → Linked text to false (count + 1) ks' ps' ns' ls heads whole
-  link_token k n to ks' ps' ns' e a b c =
+  pub link_token : (k n to : ℕ) {ks' ps' ns' : List ℕ} → CutsOn (cut_next text) text at line (Ok (Piece-as-Token k n to)) → Goes text at (Piece-as-Token k n to) → ks' ≡ set ks count k → ps' ≡ set ps count at → ns' ≡ set ns count n → Linked text to false (count + 1) ks' ps' ns' ls heads whole
+  link_token k n to {ks'} {ps'} {ns'} cuts o a b c =
       let w = link_count in
       record {
-        going = go-token text at line count ks ps ns whole g.going inside r cuts g.room ks' ps' ns' k n to e a b c;
+        going = go-token text at line count ks ps ns whole g.going inside g.room ks' ps' ns' k n to cuts o.0 o.1 a b c;
         room = room-kept text ks ps ns ks' ps' ns' g.room (long-set ks ks' count k a) (long-set ps ps' count at b) (long-set ns ns' count n c);
         hashes = g.hashes;
         links = g.links;
-        chained = rw (a, c) (chained-plain text ks ns ls heads count k n g.chained w.0 w.2 (plain-token text at line count ks ps ns whole g.going inside r cuts k n to e));
+        chained = rw (a, c) (chained-plain text ks ns ls heads count k n g.chained w.0 w.2 o.1);
       }
 
-  pub link_name : (k to : ℕ) (ks' ps' ns' ls' : List ℕ) → r ≡ Name k to → Stores text ks ps ns heads count k at to ks' ps' ns' ls' → length ls' ≡ length ls → Linked text to false (count + 1) ks' ps' ns' ls' heads whole
-  link_name k to ks' ps' ns' ls' e s l =
+  pub link_name : (k to : ℕ) {ks' ps' ns' ls' : List ℕ} → CutsOn (cut_next text) text at line (Ok (Name k to)) → Goes text at (Name k to) → Stores text ks ps ns heads count k at to ks' ps' ns' ls' → length ls' ≡ length ls → Linked text to false (count + 1) ks' ps' ns' ls' heads whole
+  link_name k to {ks'} {ps'} {ns'} {ls'} cuts o s l =
       let long = g.links in
       record {
-        going = go-name text at line count ks ps ns whole g.going inside r cuts g.room ks' ps' ns' k s.number to e s.finds s.kinds s.places s.numbers;
+        going = go-name text at line count ks ps ns whole g.going inside g.room ks' ps' ns' k s.number to cuts o.0 o.1 o.2 s.finds s.kinds s.places s.numbers;
         room = room-kept text ks ps ns ks' ps' ns' g.room (long-set ks ks' count k s.kinds) (long-set ps ps' count at s.places) (long-set ns ns' count s.number s.numbers);
         hashes = g.hashes;
         links = omega (arith, l, long);

@@ -1,13 +1,13 @@
 -- What is answered, and what stands in the lent columns then.
-use Rattle.std.specs.Prelude.{◌≡◌, List, ◌++◌, map, ℕ, ◌+◌, ◌-◌, ◌*◌, ◌≤◌, length, replicate}
+use Rattle.std.specs.Prelude.{◌≡◌, List, ◌++◌, map, ℕ, ◌+◌, ◌-◌, ◌*◌, ◌≤◌, length, replicate, Result, MatchResult}
 use Rattle.definition.specs.Answer.{Answer, got, refused}
 use Rattle.definition.specs.Limit.{max_text}
 use Rattle.definition.specs.Text.{Bytes}
 use Rattle.definition.specs.Token.{Token, Lexed}
 use Rattle.definition.specs.Cut.{Cutting, cut}
 use Rattle.spellings.specs.Chain.{HeadCount}
-use Rattle.lexer.specs.declared.Lexing.{Lexing}
-use Rattle.lexer.specs.declared.Lexing.TheVariants.{Done, Refused}
+use Rattle.encoding.specs.Refusals.{number_of}
+use Rattle.encoding.specs.declared.refusals.Refusal.{Refusal}
 
 -- numbers, with zeros after them
 unfoldable pub padded : ℕ → List ℕ → List ℕ
@@ -52,15 +52,27 @@ pub record LinksIf (text : Bytes) (ls : List ℕ) (heads : ℕ) : Type 0 where
   pub run : length text ≤ max_text → heads + 2 * length text ≤ length ls
 
 -- what the loop leaves: nothing is said of the columns where it refused
-pub data Fills (text : Bytes) (r : Lexing) (ks ps ns : List ℕ) : Type 0 where
-  done : (s : Cutting) → cut text ≡ got s → r ≡ Done (length s.tokens) → Holds s.tokens ks ps ns → Fills text r ks ps ns
-  stop : (n p : ℕ) → cut text ≡ refused n p → r ≡ Refused n p → Fills text r ks ps ns
+pub record Filled (text : Bytes) (count : ℕ) (ks ps ns : List ℕ) : Type 0 where
+  pub end : Cutting
+  pub same : cut text ≡ got end
+  pub counted : count ≡ length end.tokens
+  pub holds : Holds end.tokens ks ps ns
 
--- The definition's answer, in columns of any length: the tokens with zeros after them. On a refusal the columns are free: the definition does not tell the tokens before it.
-pub data Lexes (a : Answer Lexed) (r : Lexing) (ks ps ns : List ℕ) : Type 0 where
-  done : (x : Lexed) → a ≡ got x → r ≡ Done (length x.places)
-      → ks ≡ padded (length ks) x.tokens.kinds → ps ≡ padded (length ps) x.places → ns ≡ padded (length ns) x.tokens.numbers → Lexes a r ks ps ns
-  stop : (n p : ℕ) → a ≡ refused n p → r ≡ Refused n p → Lexes a r ks ps ns
+abbrev pub Fills : Bytes → Result ℕ Refusal → List ℕ → List ℕ → List ℕ → Type 0
+Fills text r ks ps ns = MatchResult r (λ count. Filled text count ks ps ns) (λ e. cut text ≡ refused (number_of e.reason) e.at)
+
+-- the tokens that the definition gives, with zeros after them
+pub record Tokens (a : Answer Lexed) (count : ℕ) (ks ps ns : List ℕ) : Type 0 where
+  pub lexed : Lexed
+  pub same : a ≡ got lexed
+  pub counted : count ≡ length lexed.places
+  pub kinds : ks ≡ padded (length ks) lexed.tokens.kinds
+  pub places : ps ≡ padded (length ps) lexed.places
+  pub numbers : ns ≡ padded (length ns) lexed.tokens.numbers
+
+-- The definition's answer, in columns of any length. On a refusal the columns are free: the definition does not tell the tokens before it.
+abbrev pub Lexes : Answer Lexed → Result ℕ Refusal → List ℕ → List ℕ → List ℕ → Type 0
+Lexes a r ks ps ns = MatchResult r (λ count. Tokens a count ks ps ns) (λ e. a ≡ refused (number_of e.reason) e.at)
 
 -- What is free is as long as it was: the links, which no one reads once the text is cut, and the columns of a refused text. Any numbers may stand there.
 pub record SameLengths (ks ps ns ls ks' ps' ns' ls' : List ℕ) : Type 0 where

@@ -7,46 +7,27 @@ ghost use Rattle.spellings.specs.Chain.{HeadCount};
 ghost use Rattle.lexer.specs.Columns.{Room, RoomIf, Zero, LinksIf, Fills, Lexes, SameLengths};
 ghost use Rattle.lexer.specs.Names.{Searches, Stores};
 
-use encoding::refusals::{NOT_ASCII, TEXT_TOO_LONG};
+use encoding::refusals::{Reason, Refusal};
 use model::Model;
 use next_token::{Piece, next};
-use scan::byte_at;
 use spellings::{NAME_LENGTH, Spot, slot, walk};
 
-const LAST_BYTE: u32 = 127;
-
-// How many tokens, or a refusal with its number and offset.
-#[derive(Clone, Copy)]
-pub enum Lexing {
-    Done(usize),
-    Refused(u32, usize),
-}
+const LAST_BYTE: u8 = 127;
 
 // The offset of the first byte above 127, or the text's length.
 fn ascii_end(text: &[u8]) -> usize
     ensures { result ≡ before above_ascii text.now }
 {
-    let mut i = 0;
-    while i < text.len() {
-        if LAST_BYTE < byte_at(text, i) {
-            return i;
-        }
-        i += 1;
-    }
-    i
+    text.iter()
+        .position(|b| LAST_BYTE < *b)
+        .unwrap_or(text.len())
 }
 
-// Whether no byte is above 127. The loop has no way out: many bytes are looked at in one step.
+// Whether no byte is above 127. A fold has no way out, as `all` has: many bytes are looked at in one step.
 fn is_ascii(text: &[u8]) -> bool
     ensures { result ≡ leb (length text.now) (before above_ascii text.now) }
 {
-    let mut ascii = true;
-    let mut i = 0;
-    while i < text.len() {
-        ascii = ascii & (byte_at(text, i) <= LAST_BYTE);
-        i += 1;
-    }
-    ascii
+    text.iter().fold(true, |ascii, b| ascii & (*b <= LAST_BYTE))
 }
 
 // Stores a token.
@@ -88,8 +69,7 @@ fn put_name(
     ensures { Stores text.now kinds.old places.old numbers.old heads count kind at end kinds.new places.new numbers.new links.new }
 {
     let head = slot(&text[at..end], heads);
-    let found = walk(text, kinds, numbers, links, count, heads, head, at, end);
-    match found {
+    match walk(text, kinds, numbers, links, count, heads, head, at, end) {
         Spot::Known(name) => put(kinds, places, numbers, count, kind, at as u32, name),
         Spot::Free(spot) => {
             let name = NAME_LENGTH * ((end - at) as u64) + (at as u64);
@@ -107,7 +87,7 @@ fn cut_all(
     numbers: &mut [u64],
     links: &mut [u16],
     heads: usize,
-) -> Lexing
+) -> Result<usize, Refusal>
     requires room { Room text.now kinds.old places.old numbers.old }
     requires zero { Zero kinds.old places.old numbers.old }
     requires head_count { HeadCount heads }
@@ -119,31 +99,28 @@ fn cut_all(
     let mut line = true;
     let mut count = 0;
     while at < text.len() {
-        let p = next(text, at, line);
-        match p {
+        match next(text, at, line)? {
             Piece::Skip(to, starts) => {
                 at = to;
                 line = starts;
-                continue;
             }
             Piece::Token(kind, number, to) => {
                 put(kinds, places, numbers, count, kind, at as u32, number);
                 at = to;
                 line = false;
                 count += 1;
-                continue;
             }
-            Piece::Name(k, to) => {
-                put_name(text, kinds, places, numbers, links, heads, count, k, at, to);
+            Piece::Name(kind, to) => {
+                put_name(
+                    text, kinds, places, numbers, links, heads, count, kind, at, to,
+                );
                 at = to;
                 line = false;
                 count += 1;
-                continue;
             }
-            Piece::Refused(number, offset) => return Lexing::Refused(number, offset),
         }
     }
-    Lexing::Done(count)
+    Ok(count)
 }
 
 // The tokens of a text, in columns of zeros with an entry for each byte of it, so that a short text asks for no long ones. A refusal clears nothing.
@@ -155,7 +132,7 @@ pub fn lex(
     numbers: &mut [u64],
     links: &mut [u16],
     heads: usize,
-) -> Lexing
+) -> Result<usize, Refusal>
     requires room_if { RoomIf text.now kinds.old places.old numbers.old }
     requires zero { Zero kinds.old places.old numbers.old }
     requires links_if { LinksIf text.now links.old heads }
@@ -163,10 +140,16 @@ pub fn lex(
     ensures same_lengths { SameLengths kinds.old places.old numbers.old links.old kinds.new places.new numbers.new links.new }
 {
     if Model::MAX_TEXT < text.len() {
-        return Lexing::Refused(TEXT_TOO_LONG, 0);
+        return Err(Refusal {
+            reason: Reason::TextTooLong,
+            at: 0,
+        });
     }
-    if is_ascii(text) {
-        return cut_all(text, kinds, places, numbers, links, heads);
+    if !is_ascii(text) {
+        return Err(Refusal {
+            reason: Reason::NotAscii,
+            at: ascii_end(text),
+        });
     }
-    Lexing::Refused(NOT_ASCII, ascii_end(text))
+    cut_all(text, kinds, places, numbers, links, heads)
 }

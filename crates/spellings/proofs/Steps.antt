@@ -8,8 +8,7 @@ use lib.Dec.{ltb}
 use lib.ListN.{length, get_or}
 use Rattle.definition.specs.Text.{Bytes, byte_at}
 use Rattle.spellings.specs.Names.{is_name_of}
-use Rattle.spellings.specs.declared.Spot.TheVariants.{Known, Free}
-use Rattle.spellings.specs.Chain.{bit_of, branch, Reach, here, there, Keeps, Rising, Walked, met, none}
+use Rattle.spellings.specs.Chain.{bit_of, branch, Reach, here, there, Keeps, Rising, Met, Missed}
 
 -- a bit of a spelling
 bit-low : (w : Bytes) (d : ℕ) → bit_of w d < 2
@@ -51,8 +50,13 @@ module _ {text w : Bytes} {ks ns ls : List ℕ} {count heads head : ℕ} (rising
           path = λ ls' j k r. on.path ls' j k (there d s i j (k s (λ o. absurd (omega (arith, o, e))) ∙ e) (rw q at r));
         }
 
-    pub on-end : get_or ls s 0 ≡ 0 → Walked text w ks ns ls count heads head (Free s)
-    on-end z = none s refl on.within z (on.miss (λ j r. nowhere heads ls w (λ k. is_name_of text w (get_or ks k 0) (get_or ns k 0)) d s j z r)) (λ ls' j k q. on.path ls' j k (here d s j q))
+    pub on-end : get_or ls s 0 ≡ 0 → Missed text w ks ns ls count heads head s
+    on-end z = record {
+      within = on.within;
+      free = z;
+      none = on.miss (λ j r. nowhere heads ls w (λ k. is_name_of text w (get_or ks k 0) (get_or ns k 0)) d s j z r);
+      path = λ ls' j k q. on.path ls' j k (here d s j q);
+    }
 
-    pub on-found : (i : ℕ) → get_or ls s 0 ≡ suc i → is_name_of text w (get_or ks i 0) (get_or ns i 0) ≡ true → Walked text w ks ns ls count heads head (Known (get_or ns i 0))
-    on-found i e p = let l = on.low in met i (omega arith) p refl
+    pub on-found : (i : ℕ) → get_or ls s 0 ≡ suc i → is_name_of text w (get_or ks i 0) (get_or ns i 0) ≡ true → Met text w ks ns count (get_or ns i 0)
+    on-found i e p = let l = on.low in record { token = i; before = omega arith; spells = p; same = refl }

@@ -55,13 +55,23 @@ pub record Walks (text : Bytes) (ks ns ls : List ℕ) (count heads head at end :
   pub inside : (j : ℕ) → j < count → is_name (get_or ks j 0) ≡ true → Inside text (get_or ns j 0)
   pub rising : Rising ls heads count
 
--- what it comes to: a token of the spelling, or none in the tree, and a free link by which the spelling would come to a token
-pub data Walked (text w : Bytes) (ks ns ls : List ℕ) (count heads head : ℕ) (r : Spot) : Type 0 where
-  met : (j : ℕ) → j < count → is_name_of text w (get_or ks j 0) (get_or ns j 0) ≡ true → r ≡ Known (get_or ns j 0) → Walked text w ks ns ls count heads head r
-  none : (s : ℕ) → r ≡ Free s → s < heads + 2 * count → get_or ls s 0 ≡ 0
-      → ((j : ℕ) → Reach heads ls w 0 head j → is_name_of text w (get_or ks j 0) (get_or ns j 0) ≡ false)
-      → ((ls' : List ℕ) (j : ℕ) → Keeps ls ls' → get_or ls' s 0 ≡ suc j → Reach heads ls' w 0 head j)
-      → Walked text w ks ns ls count heads head r
+-- what it comes to: a token of the spelling
+pub record Met (text w : Bytes) (ks ns : List ℕ) (count n : ℕ) : Type 0 where
+  pub token : ℕ
+  pub before : token < count
+  pub spells : is_name_of text w (get_or ks token 0) (get_or ns token 0) ≡ true
+  pub same : n ≡ get_or ns token 0
+
+-- or none in the tree, and a free link by which the spelling would come to a token
+pub record Missed (text w : Bytes) (ks ns ls : List ℕ) (count heads head s : ℕ) : Type 0 where
+  pub within : s < heads + 2 * count
+  pub free : get_or ls s 0 ≡ 0
+  pub none : (j : ℕ) → Reach heads ls w 0 head j → is_name_of text w (get_or ks j 0) (get_or ns j 0) ≡ false
+  pub path : (ls' : List ℕ) (j : ℕ) → Keeps ls ls' → get_or ls' s 0 ≡ suc j → Reach heads ls' w 0 head j
+
+abbrev pub Walked : Bytes → Bytes → List ℕ → List ℕ → List ℕ → ℕ → ℕ → ℕ → Spot → Type 0
+Walked text w ks ns ls count heads head (Known n) = Met text w ks ns count n
+Walked text w ks ns ls count heads head (Free s) = Missed text w ks ns ls count heads head s
 
 -- every name among the tokens is in the tree of its spelling, at its first token
 pub record Chained (text : Bytes) (ks ns ls : List ℕ) (heads count : ℕ) : Type 0 where

@@ -7,17 +7,15 @@ use Rattle.definition.specs.Text.{Bytes}
 use Rattle.definition.specs.Token.{Lexed}
 use Rattle.definition.specs.Cut.{tokenize}
 use Rattle.lexer.specs.Columns.{padded}
-use Rattle.lexer.specs.declared.Lexing.{Lexing}
-use Rattle.lexer.specs.declared.Lexing.TheVariants.{Done, Refused}
 
 -- the answer, and the three columns: kinds, places, numbers
 pub data Out : Type 0 where
-  out : Lexing → List ℕ → List ℕ → List ℕ → Out
+  out : Answer ℕ → List ℕ → List ℕ → List ℕ → Out
 
 -- in columns of some lengths: the tokens with zeros after them, and zeros alone on a refusal
 unfoldable pub shown : ℕ → ℕ → ℕ → Answer Lexed → Out
-shown k p n (got x) = out (Done (length x.places)) (padded k x.tokens.kinds) (padded p x.places) (padded n x.tokens.numbers)
-shown k p n (refused m at) = out (Refused m at) (replicate k 0) (replicate p 0) (replicate n 0)
+shown k p n (got x) = out (got (length x.places)) (padded k x.tokens.kinds) (padded p x.places) (padded n x.tokens.numbers)
+shown k p n (refused m at) = out (refused m at) (replicate k 0) (replicate p 0) (replicate n 0)
 
 -- a text has no more tokens than bytes: shorter columns are refused before the text is read
 unfoldable pub short : ℕ → ℕ → ℕ → Bool

@@ -2,11 +2,12 @@
 // The tokens of a text, in three columns of any length that the caller lends and need not clear.
 ghost use Rattle.std.specs.Prelude.{◌≡◌, length, replicate};
 ghost use Rattle.definition.specs.Cut.{tokenize};
+ghost use Rattle.encoding.specs.Refusals.{answer};
 ghost use Rattle.lexer.specs.Columns.{RoomIf, Zero, Lexes};
 ghost use Rattle.tokens.specs.Answered.{out, answered};
 
-use encoding::refusals::BAD_CALL;
-use lexer::{Lexing, lex};
+use encoding::refusals::{Reason, Refusal};
+use lexer::lex;
 use model::Model;
 use spellings::{HEADS, LINKS};
 
@@ -24,7 +25,12 @@ fn clear(kinds: &mut [u32], places: &mut [u32], numbers: &mut [u64])
 }
 
 // With links for any text.
-fn lex_any(text: &[u8], kinds: &mut [u32], places: &mut [u32], numbers: &mut [u64]) -> Lexing
+fn lex_any(
+    text: &[u8],
+    kinds: &mut [u32],
+    places: &mut [u32],
+    numbers: &mut [u64],
+) -> Result<usize, Refusal>
     requires room_if { RoomIf text.now kinds.old places.old numbers.old }
     requires zero { Zero kinds.old places.old numbers.old }
     ensures { Lexes (tokenize text.now) result kinds.new places.new numbers.new }
@@ -34,25 +40,28 @@ fn lex_any(text: &[u8], kinds: &mut [u32], places: &mut [u32], numbers: &mut [u6
 }
 
 // The tokens of a text, in columns of 32,768 entries at least; zeros stand after them, and everywhere on a refusal.
-pub fn tokenize(text: &[u8], kinds: &mut [u32], places: &mut [u32], numbers: &mut [u64]) -> Lexing
-    ensures { out result kinds.new places.new numbers.new ≡ answered text.now (length kinds.old) (length places.old) (length numbers.old) }
+#[tactic(auto, unfolding(crate::specs::Answered::answered, crate::specs::Answered::shown, crate::specs::Answered::short))]
+pub fn tokenize(
+    text: &[u8],
+    kinds: &mut [u32],
+    places: &mut [u32],
+    numbers: &mut [u64],
+) -> Result<usize, Refusal>
+    ensures { out (answer result) kinds.new places.new numbers.new ≡ answered text.now (length kinds.old) (length places.old) (length numbers.old) }
 {
     clear(kinds, places, numbers);
-    if kinds.len() < Model::MAX_TEXT {
-        return Lexing::Refused(BAD_CALL, 0);
+    if kinds.len() < Model::MAX_TEXT
+        || places.len() < Model::MAX_TEXT
+        || numbers.len() < Model::MAX_TEXT
+    {
+        return Err(Refusal {
+            reason: Reason::BadCall,
+            at: 0,
+        });
     }
-    if places.len() < Model::MAX_TEXT {
-        return Lexing::Refused(BAD_CALL, 0);
+    let lexed = lex_any(text, kinds, places, numbers);
+    if lexed.is_err() {
+        clear(kinds, places, numbers);
     }
-    if numbers.len() < Model::MAX_TEXT {
-        return Lexing::Refused(BAD_CALL, 0);
-    }
-    let r = lex_any(text, kinds, places, numbers);
-    match r {
-        Lexing::Done(count) => Lexing::Done(count),
-        Lexing::Refused(number, offset) => {
-            clear(kinds, places, numbers);
-            Lexing::Refused(number, offset)
-        }
-    }
+    lexed
 }
