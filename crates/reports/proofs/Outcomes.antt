@@ -1,6 +1,6 @@
 -- From the equation of an entry to what is printed. Assumes nothing.
 use mathlib.Core.Path.{◌≡◌, sym, ap, ◌∙◌}
-use Rattle.std.specs.Option.{Option, Some, None, unwrap_or}
+use Rattle.std.specs.Prelude.{Option, Some, None, unwrap_or}
 use mathlib.Core.List.{List}
 use Prim.Native.Nat.{ℕ}
 use lib.IntN.{ℤ}
@@ -23,9 +23,9 @@ use Rattle.reports.specs.Printed.{Table, Lists, Answered, Prints}
 
 -- ---- the model of a number
 
-pub model-numbered : (n : ℕ) (f : Option Model) (l : Model) → model_found f ≡ model_of n → model l ≡ lp64 → model (unwrap_or f l) ≡ or_lp64 (model_of n)
-model-numbered n (Some m) l e q = ap or_lp64 e
-model-numbered n None l e q = q ∙ ap or_lp64 e
+pub model_same : (n : ℕ) (f : Option Model) (l : Model) → model_found f ≡ model_of n → model l ≡ lp64 → model (unwrap_or f l) ≡ or_lp64 (model_of n)
+model_same n (Some m) l e q = ap or_lp64 e
+model_same n None l e q = q ∙ ap or_lp64 e
 
 -- ---- what is printed
 

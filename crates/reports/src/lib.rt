@@ -28,6 +28,7 @@ pub fn listing_buffer() -> [u8; LISTING]
     [0; LISTING]
 }
 
+#[tactic(auto, using(crate::proofs::Outcomes::model_same))]
 fn model_numbered(number: u32) -> Model
     ensures { model result ≡ or_lp64 (model_of number) }
 {
