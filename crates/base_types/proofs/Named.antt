@@ -21,10 +21,10 @@ use Rattle.words.proofs.Uses.{a-row, no_row}
 use Rattle.base_types.specs.Basing.{AddsPlain}
 
 -- the numbers of a plain row
-pub plain-numbers : {b : BaseRow} (x : Row) → b ≡ base_numbers x → Plain x
+pub plain_numbers : {b : BaseRow} (x : Row) → b ≡ base_numbers x → Plain x
     → ◌≡◌ {A = Numbers} (record { kind = b.kind; target = 0; flags = b.flags; name = 0; first = 0; count = 0; extent = b.extent }) (numbers x)
 unfolding base_numbers
-plain-numbers {b} x e p = rw (e, p.target, p.name, p.entries)
+plain_numbers {b} x e p = rw (e, p.target, p.name, p.entries)
 
 -- the row of an answer that words or a name gave, added; or nothing to add
 module _ (o : Option Row) {c : Cursor} {t : Table} {w d w' d' : List ℕ} {v v' : List ℤ} {r : Reply ℕ} (y : Answer (ℕ × State)) where

@@ -1,27 +1,28 @@
-#![tactic(auto)]
+#![tactic(auto, using(table::proofs::Shown::held_next))]
 // The types that words and names make: rows of base types.
 ghost use Rattle.definition.specs.Specifiers.{named_type, words_type, base_type};
 ghost use Rattle.table.specs.Held.{Held};
-ghost use Rattle.table.specs.Reply.{step, Does};
+ghost use Rattle.table.specs.Reply.{reply, Does};
 ghost use Rattle.model.specs.Meaning.{model};
 ghost use Rattle.words.specs.Meaning.{specifiers};
 ghost use Rattle.naming.specs.Names.{NamesFit};
 ghost use Rattle.base_types.specs.Basing.{tokens, AddsPlain};
 
-use encoding::refusals::{BAD_TYPE_WORDS, UNKNOWN_TYPE};
+use encoding::refusals::{Reason, Refusal};
 use model::Model;
-use named_rows::{Found, typedef_row};
+use named_rows::typedef_row;
 use naming::name_at;
-use table::{Cursor, Numbers, Step, kind_at};
+use table::{Answer, Cursor, Numbers, kind_at};
 use type_rows::{add_row, qualify};
 use words::classes::is_name;
 use words::specifiers::Specifiers;
 use words::types::{BaseRow, builtin, combine};
 
 // The row of a type that words or a known name make.
-fn add_base(w: &mut [u32], d: &mut [u64], v: &mut [i64], c: Cursor, base: BaseRow) -> Step
+#[tactic(auto, using(crate::proofs::Named::plain_numbers))]
+fn add_base(w: &mut [u32], d: &mut [u64], v: &mut [i64], c: Cursor, base: BaseRow) -> Answer<u32>
     requires { Held c w.old d.old v.old }
-    ensures { AddsPlain base c w.old d.old v.old (step result) w.new d.new v.new }
+    ensures { AddsPlain base c w.old d.old v.old (reply result) w.new d.new v.new }
 {
     add_row(
         w,
@@ -30,12 +31,9 @@ fn add_base(w: &mut [u32], d: &mut [u64], v: &mut [i64], c: Cursor, base: BaseRo
         c,
         Numbers {
             kind: base.kind,
-            target: 0,
             flags: base.flags,
-            name: 0,
-            first: 0,
-            count: 0,
             extent: base.extent,
+            ..Numbers::ZERO
         },
     )
 }
@@ -49,22 +47,26 @@ pub fn named_type(
     v: &mut [i64],
     c: Cursor,
     m: Model,
-) -> Step
+) -> Answer<u32>
     requires { Held c w.old d.old v.old × NamesFit kinds.now numbers.now }
-    ensures { Does (named_type (tokens kinds.now numbers.now) (model m)) c w.old d.old v.old (step result) w.new d.new v.new }
+    ensures { Does (named_type (tokens kinds.now numbers.now) (model m)) c w.old d.old v.old (reply result) w.new d.new v.new }
 {
     let at = c.at;
     let kind = kind_at(kinds, at);
     if !is_name(kind) {
-        return Step::Refused(UNKNOWN_TYPE, at);
+        return Err(Refusal {
+            reason: Reason::UnknownType,
+            at,
+        });
     }
-    let f = typedef_row(w, c, name_at(numbers, at));
-    if let Found::At(n) = f {
-        return Step::Done(c, n);
+    if let Some(n) = typedef_row(w, c, name_at(numbers, at)) {
+        return Ok((c, n));
     }
-    let k = builtin(m, kind);
-    let Some(b) = k else {
-        return Step::Refused(UNKNOWN_TYPE, at);
+    let Some(b) = builtin(m, kind) else {
+        return Err(Refusal {
+            reason: Reason::UnknownType,
+            at,
+        });
     };
     add_base(w, d, v, c, b)
 }
@@ -78,18 +80,18 @@ pub fn words_type(
     m: Model,
     p: Specifiers,
     at: usize,
-) -> Step
+) -> Answer<u32>
     requires { Held c w.old d.old v.old }
-    ensures { Does (words_type (model m) (specifiers p) at) c w.old d.old v.old (step result) w.new d.new v.new }
+    ensures { Does (words_type (model m) (specifiers p) at) c w.old d.old v.old (reply result) w.new d.new v.new }
 {
-    let base = p.base;
-    let words = p.words;
-    if let Some(n) = base {
-        return Step::Done(c, n);
+    if let Some(n) = p.base {
+        return Ok((c, n));
     }
-    let k = combine(m, words);
-    let Some(b) = k else {
-        return Step::Refused(BAD_TYPE_WORDS, at);
+    let Some(b) = combine(m, p.words) else {
+        return Err(Refusal {
+            reason: Reason::BadTypeWords,
+            at,
+        });
     };
     add_base(w, d, v, c, b)
 }
@@ -103,14 +105,10 @@ pub fn base_type(
     m: Model,
     p: Specifiers,
     at: usize,
-) -> Step
+) -> Answer<u32>
     requires { Held c w.old d.old v.old }
-    ensures { Does (base_type (model m) (specifiers p) at) c w.old d.old v.old (step result) w.new d.new v.new }
+    ensures { Does (base_type (model m) (specifiers p) at) c w.old d.old v.old (reply result) w.new d.new v.new }
 {
-    let r = words_type(w, d, v, c, m, p, at);
-    let Step::Done(e, n) = r else {
-        return r;
-    };
-    let q = p.qualifiers;
-    qualify(w, d, v, e, q, n)
+    let (e, n) = words_type(w, d, v, c, m, p, at)?;
+    qualify(w, d, v, e, p.qualifiers, n)
 }

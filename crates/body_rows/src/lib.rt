@@ -1,4 +1,4 @@
-#![tactic(auto)]
+#![tactic(auto, using(table::proofs::Shown::held_next), unfolding(definition::specs::Row::kind_of, definition::specs::Row::target_of, definition::specs::Row::flags_of, definition::specs::Row::row_name, definition::specs::Row::span_of, definition::specs::Row::extent_of))]
 // Bodies of structs, unions and enums: a tag gets its body, and a body without a tag is an equal row or the next one.
 ghost use Rattle.std.specs.Prelude.{◌≡◌, ◌≤◌};
 ghost use Rattle.std.proofs.Math.Option.{some};
@@ -6,15 +6,15 @@ ghost use Rattle.definition.specs.Row.{composite, enumeration};
 ghost use Rattle.definition.specs.Composite.{add_body};
 ghost use Rattle.definition.specs.Enumeration.{add_enum};
 ghost use Rattle.table.specs.Held.{Held};
-ghost use Rattle.table.specs.Reply.{step, numbers, Does, Changes};
+ghost use Rattle.table.specs.Reply.{reply, numbers, Does, Changes};
 ghost use Rattle.body_rows.specs.Bodies.{span, body_of, body_defined, enum_defined};
 
 use encoding::names::NO_NAME;
 use encoding::regions::NO_ROW;
 use encoding::row_kinds::ENUM_KIND;
-use named_rows::{Found, composite_kind};
+use named_rows::composite_kind;
 use open_lists::{own_members, own_values, release_members, release_values};
-use table::{Cursor, Numbers, Step, push_row, set_row};
+use table::{Answer, Cursor, Numbers, push_row, set_row};
 use type_rows::equal_row;
 
 // The numbers of a struct or union with a body.
@@ -23,12 +23,12 @@ fn body_row(union: bool, name: u32, size: u64, first: u32, count: u32) -> Number
 {
     Numbers {
         kind: composite_kind(union),
-        target: 0,
         flags: 1,
         name,
         first,
         count,
         extent: size,
+        ..Numbers::ZERO
     }
 }
 
@@ -38,12 +38,11 @@ fn enum_row(name: u32, bytes: u64, first: u32, count: u32) -> Numbers
 {
     Numbers {
         kind: ENUM_KIND,
-        target: 0,
-        flags: 0,
         name,
         first,
         count,
         extent: bytes,
+        ..Numbers::ZERO
     }
 }
 
@@ -98,22 +97,18 @@ pub fn add_body(
     size: u64,
     first: u32,
     count: u32,
-) -> Step
+) -> Answer<u32>
     requires { Held c w.old d.old v.old × (first ≤ 4096) }
-    ensures { Does (add_body union (body_of size first count)) c w.old d.old v.old (step result) w.new d.new v.new }
+    ensures { Does (add_body union (body_of size first count)) c w.old d.old v.old (reply result) w.new d.new v.new }
 {
     let row = body_row(union, NO_NAME, size, first, count);
-    let f = equal_row(w, d, v, c, row);
-    if let Found::At(n) = f {
+    if let Some(n) = equal_row(w, d, v, c, row) {
         own_members(w, c, first, NO_ROW);
-        return Step::Done(c, n);
+        return Ok((c, n));
     }
-    let r = push_row(w, d, v, c, row);
-    let Step::Done(e, n) = r else {
-        return r;
-    };
+    let (e, n) = push_row(w, d, v, c, row)?;
     own_members(w, e, first, n);
-    Step::Done(e, n)
+    Ok((e, n))
 }
 
 // The same of an enum.
@@ -125,20 +120,16 @@ pub fn add_enum(
     bytes: u64,
     first: u32,
     count: u32,
-) -> Step
+) -> Answer<u32>
     requires { Held c w.old d.old v.old × (first ≤ 4096) }
-    ensures { Does (add_enum bytes (span first count)) c w.old d.old v.old (step result) w.new d.new v.new }
+    ensures { Does (add_enum bytes (span first count)) c w.old d.old v.old (reply result) w.new d.new v.new }
 {
     let row = enum_row(NO_NAME, bytes, first, count);
-    let f = equal_row(w, d, v, c, row);
-    if let Found::At(n) = f {
+    if let Some(n) = equal_row(w, d, v, c, row) {
         own_values(w, c, first, NO_ROW);
-        return Step::Done(c, n);
+        return Ok((c, n));
     }
-    let r = push_row(w, d, v, c, row);
-    let Step::Done(e, n) = r else {
-        return r;
-    };
+    let (e, n) = push_row(w, d, v, c, row)?;
     own_values(w, e, first, n);
-    Step::Done(e, n)
+    Ok((e, n))
 }

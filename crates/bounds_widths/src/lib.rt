@@ -6,24 +6,18 @@ ghost use Rattle.definition.specs.Declarator.{constant_bound, array_bound};
 ghost use Rattle.constants.specs.Reading.{tokens};
 ghost use Rattle.table.specs.Held.{Room};
 ghost use Rattle.evaluating.specs.Leaves.{Leaves};
-ghost use Rattle.bounds_widths.specs.Parts.{width, bound};
+ghost use Rattle.table.specs.Reply.{reply_by};
+ghost use Rattle.lemmas.specs.Options.{option};
+ghost use Rattle.bounds_widths.specs.Parts.{width_in};
 
-use encoding::refusals::{BAD_BOUND, BAD_WIDTH, MISSING_MARK};
+use encoding::refusals::{Reason, Refusal};
 use encoding::token_kinds::{CLOSE_BRACKET, COLON, STAR};
 use evaluating::constant_here;
 use skipping::bound_words;
-use table::{Cursor, Step, kind_at};
+use table::{Answer, Cursor, kind_at};
 
 // The greatest width of a bit-field.
 const WIDEST: i64 = 64;
-
-// An array's bound and where to read on; without a bound; or a refusal.
-#[derive(Clone, Copy)]
-pub enum Bound {
-    Of(Cursor, u64),
-    Open(Cursor),
-    Refused(u32, usize),
-}
 
 // `: width`, where it stands: 0 for none, else 1 more than the width. `at` is the member's token.
 pub fn bit_width(
@@ -34,27 +28,22 @@ pub fn bit_width(
     c: Cursor,
     at: usize,
     room: u32,
-) -> Step
+) -> Answer<u32>
     requires { Room c }
-    ensures { Leaves (λ m. bit_width (tokens kinds.now numbers.now) m (levels (tokens kinds.now numbers.now) m room) at) c w.now v.now (width result) }
+    ensures { Leaves (λ m. bit_width (tokens kinds.now numbers.now) m (levels (tokens kinds.now numbers.now) m room) at) c w.now v.now (reply_by width_in result) }
 {
     let i = c.at;
     if kind_at(kinds, i) != COLON {
-        return Step::Done(c, 0);
+        return Ok((c, 0));
     }
-    let r = constant_here(kinds, numbers, w, v, c.moved(i + 1), room);
-    match r {
-        Ok((e, z)) => {
-            if z < 0 {
-                return Step::Refused(BAD_WIDTH, at);
-            }
-            if WIDEST < z {
-                return Step::Refused(BAD_WIDTH, at);
-            }
-            Step::Done(e, z as u32 + 1)
-        }
-        Err(x) => Step::Refused(u32::from(x.reason), x.at),
+    let (e, z) = constant_here(kinds, numbers, w, v, c.moved(i + 1), room)?;
+    if z < 0 || WIDEST < z {
+        return Err(Refusal {
+            reason: Reason::BadWidth,
+            at,
+        });
     }
+    Ok((e, z as u32 + 1))
 }
 
 // The constant before `]`, as a bound.
@@ -65,25 +54,26 @@ fn constant_bound(
     v: &[i64],
     c: Cursor,
     room: u32,
-) -> Bound
+) -> Answer<Option<u64>>
     requires { Room c }
-    ensures { Leaves (λ m. constant_bound (tokens kinds.now numbers.now) m (levels (tokens kinds.now numbers.now) m room)) c w.now v.now (bound result) }
+    ensures { Leaves (λ m. constant_bound (tokens kinds.now numbers.now) m (levels (tokens kinds.now numbers.now) m room)) c w.now v.now (reply_by option result) }
 {
     let at = c.at;
-    let r = constant_here(kinds, numbers, w, v, c, room);
-    match r {
-        Ok((e, z)) => {
-            let i = e.at;
-            if kind_at(kinds, i) != CLOSE_BRACKET {
-                return Bound::Refused(MISSING_MARK, i);
-            }
-            if z < 0 {
-                return Bound::Refused(BAD_BOUND, at);
-            }
-            Bound::Of(e.moved(i + 1), z as u64)
-        }
-        Err(x) => Bound::Refused(u32::from(x.reason), x.at),
+    let (e, z) = constant_here(kinds, numbers, w, v, c, room)?;
+    let end = e.at;
+    if kind_at(kinds, end) != CLOSE_BRACKET {
+        return Err(Refusal {
+            reason: Reason::MissingMark,
+            at: end,
+        });
     }
+    if z < 0 {
+        return Err(Refusal {
+            reason: Reason::BadBound,
+            at,
+        });
+    }
+    Ok((e.moved(end + 1), Some(z as u64)))
 }
 
 // The bound after `[`, none for `[]`.
@@ -94,20 +84,26 @@ pub fn array_bound(
     v: &[i64],
     c: Cursor,
     room: u32,
-) -> Bound
+) -> Answer<Option<u64>>
     requires { Room c }
-    ensures { Leaves (λ m. array_bound (tokens kinds.now numbers.now) m (levels (tokens kinds.now numbers.now) m room)) c w.now v.now (bound result) }
+    ensures { Leaves (λ m. array_bound (tokens kinds.now numbers.now) m (levels (tokens kinds.now numbers.now) m room)) c w.now v.now (reply_by option result) }
 {
     let i = bound_words(kinds, c.at);
     let kind = kind_at(kinds, i);
     if kind == CLOSE_BRACKET {
-        return Bound::Open(c.moved(i + 1));
+        return Ok((c.moved(i + 1), None));
     }
     if kind == STAR {
         if kind_at(kinds, i + 1) != CLOSE_BRACKET {
-            return Bound::Refused(MISSING_MARK, i + 1);
+            return Err(Refusal {
+                reason: Reason::MissingMark,
+                at: i + 1,
+            });
         }
-        return Bound::Refused(BAD_BOUND, i);
+        return Err(Refusal {
+            reason: Reason::BadBound,
+            at: i,
+        });
     }
     constant_bound(kinds, numbers, w, v, c.moved(i), room)
 }

@@ -19,7 +19,7 @@ use Rattle.definition.specs.Lent.{signeds}
 use Rattle.definition.specs.Region.{value_columns, values_at, names_at}
 use Rattle.table.specs.declared.Cursor.{Cursor}
 use Rattle.table.specs.Held.{reading_words, value_slot, no_value, Fits, InWords, Indexed, Encodes, state, moved_to}
-use Rattle.table.specs.Reply.{Shows, both, ok}
+use Rattle.table.specs.Reply.{Shows, both, ok, reply}
 use Rattle.table.proofs.Branch.{via, halt}
 use Rattle.table.proofs.Shown.{got-at, no! }
 use Rattle.table.proofs.Regions.{value-word, value_signed}
@@ -28,7 +28,6 @@ use Rattle.std.specs.Prelude.{Result, Ok, Err, IsErrAnd}
 use Rattle.definition.specs.Answer.{Answer, got, refused}
 use Rattle.encoding.specs.Refusals.{number_of}
 use Rattle.encoding.specs.declared.refusals.Refusal.{Refusal}
-use Rattle.constants.specs.Here.{evaluated}
 use Rattle.constants.specs.Lookup.{last_value, bound_in, known_value}
 
 abbrev either : {A : Type 0} → Bool → A → A → A
@@ -98,7 +97,7 @@ module _ (ts : Tokens) {t : Table} {c : Cursor} {w d : List ℕ} {v : List ℤ} 
   says : a ≡ constant ts (λ n. value_named n t.values) c.at
   says = e ∙ ap (λ k. constant ts k c.at) (knows h)
 
-  pub refused-here : (r : Result (Cursor × ℤ) Refusal) (x : Refusal) → a ≡ refused (number_of x.reason) x.at → IsErrAnd r (λ y. y ≡ x) → Shows both (constant_here ts (state c t)) (evaluated r) w d v
+  pub refused-here : (r : Result (Cursor × ℤ) Refusal) (x : Refusal) → a ≡ refused (number_of x.reason) x.at → IsErrAnd r (λ y. y ≡ x) → Shows both (constant_here ts (state c t)) (reply r) w d v
   unfolding constant_here
   refused-here (Ok p) x q f = absurd f
   refused-here (Err y) x q f = rw f (halt _ (sym says ∙ q) (no! h refl))

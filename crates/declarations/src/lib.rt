@@ -5,7 +5,7 @@ ghost use Rattle.definition.specs.Token.{left};
 ghost use Rattle.definition.specs.Reader.{init_declarator, declaration, declarations_from};
 ghost use Rattle.constants.specs.Reading.{tokens};
 ghost use Rattle.table.specs.Held.{Held};
-ghost use Rattle.table.specs.Reply.{move, Moves};
+ghost use Rattle.table.specs.Reply.{reply_alone, Moves};
 ghost use Rattle.model.specs.Meaning.{model};
 ghost use Rattle.encoding.specs.Storage.{storage};
 ghost use Rattle.parser.specs.Answers.{Readable, MovesIn};
@@ -16,13 +16,13 @@ use declaration_entries::{
     add_declaration, declare, is_typedef, nothing_more, optional_semicolon, separated,
 };
 use encoding::names::NO_NAME;
-use encoding::refusals::MISSING_NAME;
+use encoding::refusals::{Reason, Refusal};
 use encoding::storage::Storage;
 use encoding::token_kinds::{COMMA, END, SEMICOLON};
 use model::Model;
-use parser::{Specified, Typed, declared_type, specifiers};
+use parser::{declared_type, specifiers};
 use skipping::initialiser;
-use table::{Cursor, Declaration, Move, Step, kind_at};
+use table::{Cursor, Declaration, kind_at};
 
 // "depth above 64": a declaration takes a level itself.
 const INNER_ROOM: u32 = Model::MAX_DEPTH - 1;
@@ -38,28 +38,26 @@ fn init_declarator(
     m: Model,
     class: Storage,
     b: u32,
-) -> Move
+) -> Result<Cursor, Refusal>
     requires held { Held c w.old d.old v.old }
     requires readable { Readable kinds.now numbers.now }
-    ensures { Moves (init_declarator (tokens kinds.now numbers.now) (model m) (storage class) b) c w.old d.old v.old (move result) w.new d.new v.new }
+    ensures { Moves (init_declarator (tokens kinds.now numbers.now) (model m) (storage class) b) c w.old d.old v.old (reply_alone result) w.new d.new v.new }
 {
     let at = c.at;
-    let t = declared_type(kinds, numbers, w, d, v, c, m, b, INNER_ROOM);
-    match t {
-        Typed::Done(e, ty, name) => {
-            if name == NO_NAME {
-                return Move::Refused(MISSING_NAME, at);
-            }
-            let f = e.moved(initialiser(kinds, e.at));
-            let x = Declaration {
-                storage: class,
-                ty,
-                name,
-            };
-            add_declaration(w, d, v, f, x, at)
-        }
-        Typed::Refused(k, p) => Move::Refused(k, p),
+    let (e, t) = declared_type(kinds, numbers, w, d, v, c, m, b, INNER_ROOM)?;
+    if t.name == NO_NAME {
+        return Err(Refusal {
+            reason: Reason::MissingName,
+            at,
+        });
     }
+    let f = e.moved(initialiser(kinds, e.at));
+    let x = Declaration {
+        storage: class,
+        ty: t.ty,
+        name: t.name,
+    };
+    add_declaration(w, d, v, f, x, at)
 }
 
 // The declarators of a declaration.
@@ -73,20 +71,17 @@ fn init_declarators(
     m: Model,
     class: Storage,
     b: u32,
-) -> Move
+) -> Result<Cursor, Refusal>
     requires held { Held c w.old d.old v.old }
     requires readable { Readable kinds.now numbers.now }
-    ensures { MovesIn (declarators_in (tokens kinds.now numbers.now) (model m) (storage class) b) (left (tokens kinds.now numbers.now) c.at) c w.old d.old v.old (move result) w.new d.new v.new }
+    ensures { MovesIn (declarators_in (tokens kinds.now numbers.now) (model m) (storage class) b) (left (tokens kinds.now numbers.now) c.at) c w.old d.old v.old (reply_alone result) w.new d.new v.new }
 {
     let mut here = c;
     loop {
-        let r = init_declarator(kinds, numbers, w, d, v, here, m, class, b);
-        let Move::To(e) = r else {
-            return r;
-        };
+        let e = init_declarator(kinds, numbers, w, d, v, here, m, class, b)?;
         let i = e.at;
         if kind_at(kinds, i) != COMMA {
-            return Move::To(e);
+            return Ok(e);
         }
         here = e.moved(i + 1);
     }
@@ -104,15 +99,18 @@ fn after_base(
     class: Storage,
     b: u32,
     at: usize,
-) -> Move
+) -> Result<Cursor, Refusal>
     requires held { Held c w.old d.old v.old }
     requires readable { Readable kinds.now numbers.now }
-    ensures { MovesIn (after_base (tokens kinds.now numbers.now) (model m) (storage class) b at) (left (tokens kinds.now numbers.now) c.at) c w.old d.old v.old (move result) w.new d.new v.new }
+    ensures { MovesIn (after_base (tokens kinds.now numbers.now) (model m) (storage class) b at) (left (tokens kinds.now numbers.now) c.at) c w.old d.old v.old (reply_alone result) w.new d.new v.new }
 {
     let kind = kind_at(kinds, c.at);
-    if (kind == SEMICOLON) | (kind == END) {
+    if kind == SEMICOLON || kind == END {
         if is_typedef(class) {
-            return Move::Refused(MISSING_NAME, at);
+            return Err(Refusal {
+                reason: Reason::MissingName,
+                at,
+            });
         }
         return declare(
             w,
@@ -138,26 +136,16 @@ pub fn declaration(
     v: &mut [i64],
     c: Cursor,
     m: Model,
-) -> Move
+) -> Result<Cursor, Refusal>
     requires held { Held c w.old d.old v.old }
     requires readable { Readable kinds.now numbers.now }
-    ensures { Moves (declaration (tokens kinds.now numbers.now) (model m)) c w.old d.old v.old (move result) w.new d.new v.new }
+    ensures { Moves (declaration (tokens kinds.now numbers.now) (model m)) c w.old d.old v.old (reply_alone result) w.new d.new v.new }
 {
     let at = c.at;
-    let s = specifiers(kinds, numbers, w, d, v, c, m, INNER_ROOM);
-    match s {
-        Specified::Done(e, p) => {
-            let r = base_type(w, d, v, e, m, p, at);
-            match r {
-                Step::Done(f, b) => {
-                    let class = p.storage;
-                    after_base(kinds, numbers, w, d, v, f, m, class, b, at)
-                }
-                Step::Refused(k, q) => Move::Refused(k, q),
-            }
-        }
-        Specified::Refused(k, q) => Move::Refused(k, q),
-    }
+    let (e, p) = specifiers(kinds, numbers, w, d, v, c, m, INNER_ROOM)?;
+    let (f, b) = base_type(w, d, v, e, m, p, at)?;
+    let class = p.storage;
+    after_base(kinds, numbers, w, d, v, f, m, class, b, at)
 }
 
 // All declarations to the end of the tokens.
@@ -169,29 +157,23 @@ pub fn declarations(
     v: &mut [i64],
     c: Cursor,
     m: Model,
-) -> Move
+) -> Result<Cursor, Refusal>
     requires held { Held c w.old d.old v.old }
     requires readable { Readable kinds.now numbers.now }
-    ensures { Moves (declarations_from (tokens kinds.now numbers.now) (model m) (suc (left (tokens kinds.now numbers.now) c.at))) c w.old d.old v.old (move result) w.new d.new v.new }
+    ensures { Moves (declarations_from (tokens kinds.now numbers.now) (model m) (suc (left (tokens kinds.now numbers.now) c.at))) c w.old d.old v.old (reply_alone result) w.new d.new v.new }
 {
     let mut here = c;
     loop {
         let at = here.at;
         let kind = kind_at(kinds, at);
         if kind == END {
-            return Move::To(here);
+            return Ok(here);
         }
         if kind == SEMICOLON {
             here = here.moved(at + 1);
         } else {
-            let r = declaration(kinds, numbers, w, d, v, here, m);
-            let Move::To(e) = r else {
-                return r;
-            };
-            let s = separated(kinds, e);
-            let Move::To(f) = s else {
-                return s;
-            };
+            let e = declaration(kinds, numbers, w, d, v, here, m)?;
+            let f = separated(kinds, e)?;
             here = f;
         }
     }
@@ -206,14 +188,11 @@ pub fn lone_declaration(
     v: &mut [i64],
     c: Cursor,
     m: Model,
-) -> Move
+) -> Result<Cursor, Refusal>
     requires held { Held c w.old d.old v.old }
     requires readable { Readable kinds.now numbers.now }
-    ensures { Moves (alone_from (tokens kinds.now numbers.now) (model m)) c w.old d.old v.old (move result) w.new d.new v.new }
+    ensures { Moves (alone_from (tokens kinds.now numbers.now) (model m)) c w.old d.old v.old (reply_alone result) w.new d.new v.new }
 {
-    let r = declaration(kinds, numbers, w, d, v, c, m);
-    let Move::To(e) = r else {
-        return r;
-    };
+    let e = declaration(kinds, numbers, w, d, v, c, m)?;
     nothing_more(kinds, optional_semicolon(kinds, e))
 }

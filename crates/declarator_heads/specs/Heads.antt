@@ -1,28 +1,26 @@
 -- What is read before the name of a declarator: stars, and a parenthesis. And declarators that need no steps to be kept.
-use Rattle.std.specs.Prelude.{◌≡◌, Bool, ◌&&◌, not, List, [], ◌++◌, ℕ, suc, ◌+◌, eqb, ℤ, length, get_or}
+use Rattle.std.specs.Prelude.{◌≡◌, Bool, ◌&&◌, not, List, [], ◌++◌, ℕ, suc, ◌+◌, eqb, ℤ, length, get_or, Result}
 use Rattle.definition.specs.Kind.{is_name, end, star, open_bracket, open_paren}
 use Rattle.definition.specs.Token.{Tokens, left}
 use Rattle.definition.specs.Row.{Qualifiers}
 use Rattle.definition.specs.Table.{Table, new_table, Reads}
 use Rattle.definition.specs.Declarator.{qualifiers_here, stars_from}
 use Rattle.table.specs.Held.{InWords, Indexed, Counts}
-use Rattle.table.specs.Reply.{Reply, ok, bad, Does}
+use Rattle.encoding.specs.declared.refusals.Refusal.{Refusal}
+use Rattle.table.specs.Reply.{Reply, ok, replied, Does}
 use Rattle.table.specs.declared.Cursor.{Cursor}
-use Rattle.table.specs.declared.Step.{Step}
-use Rattle.table.specs.declared.Step.TheVariants.{Done, Refused}
 use Rattle.declarator_steps.specs.declared.Steps.{Steps}
 use Rattle.declarator_steps.specs.Pending.{pending, Waiting}
 use Rattle.skipping.specs.Passing.{tokens, standing}
-use Rattle.declarator_heads.specs.declared.Declared.{Declared}
+use Rattle.declarator_heads.specs.declared.Starred.{Starred}
 
 -- the stars that stand here, after `used` steps
 abbrev pub stars_here : Tokens → ℕ → Reads (List Qualifiers)
 stars_here ts used s = stars_from ts (suc (left ts s.at)) used [] s
 
 -- stars that were read, and where to read on; or a refusal
-abbrev pub stars : List Qualifiers → Step → Reply (List Qualifiers)
-stars qs (Done c n) = ok c qs
-stars qs (Refused n p) = bad n p
+abbrev pub stars : List Qualifiers → Result Cursor Refusal → Reply (List Qualifiers)
+stars qs = replied (λ c. ok c qs)
 
 -- s' is s with the stars qs, the newest first, before those that waited
 pub record Holds (qs : List Qualifiers) (s s' : Steps) : Type 0 where
@@ -32,7 +30,7 @@ pub record Holds (qs : List Qualifiers) (s s' : Steps) : Type 0 where
   pub waiting : Waiting s' s'.held
 
 -- The stars at c are read and wait, whatever the numbers of the tokens are and whatever the slices hold.
-pub record Stars (ks : List ℕ) (c : Cursor) (s : Steps) (r : Declared) : Type 0 where
+pub record Stars (ks : List ℕ) (c : Cursor) (s : Steps) (r : Starred) : Type 0 where
   pub read : List Qualifiers
   pub holds : Holds read s r.steps
   pub does : (ns w d : List ℕ) (v : List ℤ) (used : ℕ) → used ≡ s.held + s.len → Does (stars_here (tokens ks ns) used) c w d v (stars read r.answer) w d v

@@ -10,33 +10,25 @@ ghost use Rattle.skipping.specs.Passing.{tokens};
 ghost use Rattle.declarator_heads.specs.Heads.{Stars, Tells, is_plain, is_plain_pointer};
 
 use declarator_steps::Steps;
-use encoding::refusals::LIMIT_PASSED;
+use encoding::refusals::{Reason, Refusal};
 use encoding::token_kinds::{OPEN_BRACKET, OPEN_PAREN, STAR};
 use model::Model;
-use named_rows::{Found, typedef_row};
+use named_rows::typedef_row;
 use naming::name_at;
 use skipping::qualifiers_here;
-use table::{Cursor, Step, kind_at};
+use table::{Cursor, kind_at};
 use words::classes::is_name;
 use words::types::builtin;
 
-// A declarator: the name that it declares and where to read on, or a refusal; and its steps.
+// Where to read on after stars, or a refusal; and the steps with the stars that were read, whatever the answer is.
 #[derive(Clone, Copy)]
-pub struct Declared {
-    pub answer: Step,
+pub struct Starred {
+    pub answer: Result<Cursor, Refusal>,
     pub steps: Steps,
 }
 
-impl Declared {
-    pub fn new(answer: Step, steps: Steps) -> Declared
-        ensures { result ≡ record { answer = answer; steps = steps } }
-    {
-        Declared { answer, steps }
-    }
-}
-
 // The stars, with their qualifiers, held until what they stand before is read.
-pub fn stars(kinds: &[u32], c: Cursor, s: Steps) -> Declared
+pub fn stars(kinds: &[u32], c: Cursor, s: Steps) -> Starred
     requires { s.len + s.held ≤ max_steps }
     ensures { Stars kinds.now c s result }
 {
@@ -45,10 +37,17 @@ pub fn stars(kinds: &[u32], c: Cursor, s: Steps) -> Declared
     loop {
         let at = here.at;
         if kind_at(kinds, at) != STAR {
-            return Declared::new(Step::Done(here, 0), t);
+            return Starred {
+                answer: Ok(here),
+                steps: t,
+            };
         }
         if t.is_full() {
-            return Declared::new(Step::Refused(LIMIT_PASSED, at + 1), t);
+            let answer = Err(Refusal {
+                reason: Reason::LimitPassed,
+                at: at + 1,
+            });
+            return Starred { answer, steps: t };
         }
         let (q, next) = qualifiers_here(kinds, at + 1);
         t = t.hold_star(q);
@@ -67,20 +66,13 @@ pub fn opens_declarator(kinds: &[u32], numbers: &[u64], w: &[u32], c: Cursor, m:
         return false;
     }
     let kind = kind_at(kinds, at + 1);
-    if kind == STAR {
-        return true;
-    }
-    if kind == OPEN_PAREN {
+    if kind == STAR || kind == OPEN_PAREN {
         return true;
     }
     if !is_name(kind) {
         return false;
     }
-    let f = typedef_row(w, c, name_at(numbers, at + 1));
-    if let Found::At(_) = f {
-        return false;
-    }
-    builtin(m, kind).is_none()
+    typedef_row(w, c, name_at(numbers, at + 1)).is_none() && builtin(m, kind).is_none()
 }
 
 // A name without a bound or a parameter list after it: a declarator that takes no steps.

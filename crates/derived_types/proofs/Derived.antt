@@ -1,12 +1,12 @@
 -- Steps one after the other, and lists that begin past the last parameter. Assumes nothing.
 use mathlib.Core.Path.{◌≡◌, refl, sym, ap, ◌∙◌}
 use mathlib.Core.Bool.{Bool, true, false, ◌||◌}
-use mathlib.Core.Option.{Option, none, some}
+use mathlib.Core.Option.{Option, some}
 use mathlib.Core.List.{List, [], ◌∷◌}
 use Prim.Native.Nat.{ℕ, suc, ◌+◌, ◌*◌, ◌-◌, ◌≤◌, ◌<◌}
 use mir.Val.{bool_byte}
 use native.Mathlib.Omega.{arith}
-use lib.Dec.{eqb}
+use lib.Dec.{eqb, leb}
 use lib.IntN.{ℤ}
 use lib.ListN.{length}
 use Rattle.definition.specs.Answer.{Answer, got, refused, ◌>>=◌}
@@ -25,25 +25,21 @@ use Rattle.table.specs.Reply.{numbers}
 use Rattle.table.specs.declared.Cursor.{Cursor}
 use Rattle.table.specs.declared.Numbers.{Numbers}
 use Rattle.declarator_steps.specs.Pending.{steps_from}
-use Rattle.derived_types.specs.Derives.{span, Alike, same, past, Nearest}
+use Rattle.derived_types.specs.Derives.{span}
+use Rattle.lemmas.specs.Options.{option}
+use Rattle.std.specs.Prelude.{Option as StdOption, Some, None, is_some, unwrap_or, min}
+use Rattle.std.proofs.Math.Nat.{min-eq_left}
+use borrow.Author.Tests.{leb-true, leb-false}
 
--- the numbers of a function's row begin where its list does
-pub first-low : {row : Numbers} (o : Option ℕ) (v : Bool) (first count : ℕ) → row ≡ numbers (function o v (span first count)) → first ≤ 4096 → row.first ≤ 4096
-unfolding span_of
-first-low o v first count e h = rw e h
-
--- a bool in a row's flags
-pub some-numbers : (n : ℕ) (v : Bool) (first count : ℕ)
-    → ◌≡◌ {A = Numbers} (record { kind = 9; target = n; flags = 1 + 2 * bool_byte v; name = 0; first = first; count = count; extent = 0 }) (numbers (function (some n) v (span first count)))
+-- a function's row, by what it returns and whether it takes `...`
+pub function_numbers : (o : StdOption ℕ) (v : Bool) (first count : ℕ)
+    → ◌≡◌ {A = Numbers} (record { kind = 9; target = unwrap_or o 0; flags = bool_byte (is_some o) + 2 * bool_byte v; name = 0; first = first; count = count; extent = 0 })
+    (numbers (function (option o) v (span first count)))
 unfolding kind_of target_of flags_of row_name span_of extent_of
-some-numbers n true first count = refl
-some-numbers n false first count = refl
-
-pub none-numbers : (v : Bool) (first count : ℕ)
-    → ◌≡◌ {A = Numbers} (record { kind = 9; target = 0; flags = 2 * bool_byte v; name = 0; first = first; count = count; extent = 0 }) (numbers (function none v (span first count)))
-unfolding kind_of target_of flags_of row_name span_of extent_of
-none-numbers true first count = refl
-none-numbers false first count = refl
+function_numbers (Some n) true first count = refl
+function_numbers (Some n) false first count = refl
+function_numbers None true first count = refl
+function_numbers None false first count = refl
 
 -- ---- a step, and those after it
 
@@ -130,10 +126,10 @@ module _ (t : Table) (returns : Option ℕ) (varargs : Bool) (count : ℕ) where
     near_rows n [] = refl
     near_rows n (x ∷ xs) = either n (near_row n x) (near_rows (suc n) xs)
 
-  pub near_equal : {first near : ℕ} → length t.parameters ≤ 4096 → Nearest first near → (n : ℕ) (xs : List Row)
+  pub near_equal : (first : ℕ) {near : ℕ} → near ≡ min first 4096 → length t.parameters ≤ 4096 → (n : ℕ) (xs : List Row)
       → equal_row t (function returns varargs (span near count)) n xs ≡ equal_row t (function returns varargs (span first count)) n xs
-  near_equal l h n xs = go h.alike n xs
+  near_equal first {near} q l n xs = go (leb first 4096) refl
     where
-      go : {a b : ℕ} → Alike a b → (n : ℕ) (xs : List Row) → equal_row t (function returns varargs (span a count)) n xs ≡ equal_row t (function returns varargs (span b count)) n xs
-      go {a} {b} (same e) n xs = ap (λ z. equal_row t (function returns varargs (span z count)) n xs) e
-      go {a} {b} (past p q) n xs = near_rows a b (none-there a (omega arith) ∙ sym (none-there b (omega arith))) n xs
+      go : (z : Bool) → leb first 4096 ≡ z → equal_row t (function returns varargs (span near count)) n xs ≡ equal_row t (function returns varargs (span first count)) n xs
+      go true e = let p : first ≤ 4096 = leb-true _ _ e in ap (λ z. equal_row t (function returns varargs (span z count)) n xs) (q ∙ min-eq_left p)
+      go false e = let p : 4096 < first = leb-false _ _ e in near_rows _ _ (none-there _ (omega arith) ∙ sym (none-there _ (omega arith))) n xs

@@ -1,4 +1,4 @@
-#![tactic(auto)]
+#![tactic(auto, using(table::proofs::Shown::held_next), unfolding(definition::specs::Row::kind_of, definition::specs::Row::target_of, definition::specs::Row::flags_of, definition::specs::Row::row_name, definition::specs::Row::span_of, definition::specs::Row::extent_of))]
 // What the steps of a declarator make of a type: stars, bounds and parameter lists; and the types of parameters.
 ghost use Rattle.std.specs.Prelude.{◌≡◌, [], ◌∷◌, ◌≤◌};
 ghost use Rattle.definition.specs.Limit.{max_steps};
@@ -7,29 +7,30 @@ ghost use Rattle.definition.specs.Types.{add};
 ghost use Rattle.definition.specs.Grammar.{array_step, function_step, pointer_step};
 ghost use Rattle.definition.specs.Declarator.{add_function, returned, apply, adjusted};
 ghost use Rattle.table.specs.Held.{Held};
-ghost use Rattle.table.specs.Reply.{step, numbers, Does, DoesAs};
-ghost use Rattle.named_rows.specs.Finds.{found, Says};
+ghost use Rattle.table.specs.Reply.{reply, numbers, Does, DoesAs};
+ghost use Rattle.lemmas.specs.Options.{option};
+ghost use Rattle.named_rows.specs.Finds.{Says};
 ghost use Rattle.declarator_steps.specs.Pending.{shape_step, pending};
 ghost use Rattle.words.specs.Meaning.{qualifiers};
-ghost use Rattle.derived_types.specs.Derives.{span, bound_numbers, Nearest};
+ghost use Rattle.derived_types.specs.Derives.{span, bound_numbers};
 
 use declarator_steps::{Shape, Steps};
-use encoding::refusals::IMPOSSIBLE_TYPE;
+use encoding::refusals::{Reason, Refusal};
 use encoding::regions::NO_ROW;
 use encoding::row_kinds::{ARRAY_KIND, FUNCTION_KIND, POINTER_KIND, VOID_KIND};
 use model::Model;
-use named_rows::{Found, resolve, resolved_kind};
+use named_rows::{resolve, resolved_kind};
 use open_lists::own_parameters;
-use table::{Cursor, Numbers, Step, push_row, row_target};
+use table::{Answer, Cursor, Numbers, push_row, row_target};
 use type_rows::{add_row, equal_row, qualify};
 use words::qualifiers::Qualifiers;
 
-// No list of parameters begins after this.
+// Lists that begin here or later have no parameters, so a search need not tell them apart.
 const LAST_FIRST: u32 = Model::MAX_PARAMETERS as u32;
 
-fn add_pointer(w: &mut [u32], d: &mut [u64], v: &mut [i64], c: Cursor, b: u32) -> Step
+fn add_pointer(w: &mut [u32], d: &mut [u64], v: &mut [i64], c: Cursor, b: u32) -> Answer<u32>
     requires { Held c w.old d.old v.old }
-    ensures { Does (add (pointer b)) c w.old d.old v.old (step result) w.new d.new v.new }
+    ensures { Does (add (pointer b)) c w.old d.old v.old (reply result) w.new d.new v.new }
 {
     add_row(
         w,
@@ -39,11 +40,7 @@ fn add_pointer(w: &mut [u32], d: &mut [u64], v: &mut [i64], c: Cursor, b: u32) -
         Numbers {
             kind: POINTER_KIND,
             target: b,
-            flags: 0,
-            name: 0,
-            first: 0,
-            count: 0,
-            extent: 0,
+            ..Numbers::ZERO
         },
     )
 }
@@ -56,14 +53,11 @@ pub fn apply_pointer(
     c: Cursor,
     q: Qualifiers,
     b: u32,
-) -> Step
+) -> Answer<u32>
     requires { Held c w.old d.old v.old }
-    ensures { Does (apply (pointer_step (qualifiers q) ∷ []) b) c w.old d.old v.old (step result) w.new d.new v.new }
+    ensures { Does (apply (pointer_step (qualifiers q) ∷ []) b) c w.old d.old v.old (reply result) w.new d.new v.new }
 {
-    let r = add_pointer(w, d, v, c, b);
-    let Step::Done(e, n) = r else {
-        return r;
-    };
+    let (e, n) = add_pointer(w, d, v, c, b)?;
     qualify(w, d, v, e, q, n)
 }
 
@@ -76,12 +70,15 @@ fn apply_array(
     flags: u32,
     extent: u64,
     b: u32,
-) -> Step
+) -> Answer<u32>
     requires { Held c w.old d.old v.old }
-    ensures { DoesAs bound_numbers (flags, extent) (λ n. apply (array_step n ∷ []) b) c w.old d.old v.old (step result) w.new d.new v.new }
+    ensures { DoesAs bound_numbers (flags, extent) (λ n. apply (array_step n ∷ []) b) c w.old d.old v.old (reply result) w.new d.new v.new }
 {
     if resolved_kind(w, b) == VOID_KIND {
-        return Step::Refused(IMPOSSIBLE_TYPE, c.at);
+        return Err(Refusal {
+            reason: Reason::ImpossibleType,
+            at: c.at,
+        });
     }
     add_row(
         w,
@@ -92,59 +89,36 @@ fn apply_array(
             kind: ARRAY_KIND,
             target: b,
             flags,
-            name: 0,
-            first: 0,
-            count: 0,
             extent,
+            ..Numbers::ZERO
         },
     )
 }
 
 // A function of void returns nothing.
-fn returned(w: &[u32], b: u32) -> Found
-    ensures { Says (λ t. returned t b) w.now (found result) }
+fn returned(w: &[u32], b: u32) -> Option<u32>
+    ensures { Says (λ t. returned t b) w.now (option result) }
 {
     if resolve(w, b) == VOID_KIND {
-        return Found::Nothing;
+        None
+    } else {
+        Some(b)
     }
-    Found::At(b)
 }
 
 // The row of a function.
-fn function_row(returns: Found, varargs: bool, first: u32, count: u32) -> Numbers
-    ensures { result ≡ numbers (function (found returns) varargs (span first count)) }
+#[tactic(auto, using(crate::proofs::Derived::function_numbers))]
+fn function_row(returns: Option<u32>, varargs: bool, first: u32, count: u32) -> Numbers
+    ensures { result ≡ numbers (function (option returns) varargs (span first count)) }
 {
-    let more = 2 * (varargs as u32);
-    match returns {
-        Found::At(n) => Numbers {
-            kind: FUNCTION_KIND,
-            target: n,
-            flags: 1 + more,
-            name: 0,
-            first,
-            count,
-            extent: 0,
-        },
-        Found::Nothing => Numbers {
-            kind: FUNCTION_KIND,
-            target: 0,
-            flags: more,
-            name: 0,
-            first,
-            count,
-            extent: 0,
-        },
+    Numbers {
+        kind: FUNCTION_KIND,
+        target: returns.unwrap_or(NO_ROW),
+        flags: returns.is_some() as u32 + 2 * (varargs as u32),
+        first,
+        count,
+        ..Numbers::ZERO
     }
-}
-
-// Where a list begins, as far as a search can tell.
-fn nearest(first: u32) -> u32
-    ensures { Nearest first result }
-{
-    if first <= LAST_FIRST {
-        return first;
-    }
-    LAST_FIRST
 }
 
 // A function type: an equal row, and then its list carries row 0, or a new one.
@@ -153,26 +127,22 @@ pub fn add_function(
     d: &mut [u64],
     v: &mut [i64],
     c: Cursor,
-    returns: Found,
+    returns: Option<u32>,
     varargs: bool,
     first: u32,
     count: u32,
-) -> Step
+) -> Answer<u32>
     requires { Held c w.old d.old v.old }
-    ensures { Does (add_function (found returns) varargs (span first count)) c w.old d.old v.old (step result) w.new d.new v.new }
+    ensures { Does (add_function (option returns) varargs (span first count)) c w.old d.old v.old (reply result) w.new d.new v.new }
 {
-    let near = nearest(first);
-    let f = equal_row(w, d, v, c, function_row(returns, varargs, near, count));
-    if let Found::At(n) = f {
+    let like = function_row(returns, varargs, first.min(LAST_FIRST), count);
+    if let Some(n) = equal_row(w, d, v, c, like) {
         own_parameters(w, c, first, NO_ROW);
-        return Step::Done(c, n);
+        return Ok((c, n));
     }
-    let r = push_row(w, d, v, c, function_row(returns, varargs, first, count));
-    let Step::Done(e, n) = r else {
-        return r;
-    };
+    let (e, n) = push_row(w, d, v, c, function_row(returns, varargs, first, count))?;
     own_parameters(w, e, first, n);
-    Step::Done(e, n)
+    Ok((e, n))
 }
 
 // A parameter list.
@@ -185,24 +155,31 @@ fn apply_function(
     first: u32,
     count: u32,
     b: u32,
-) -> Step
+) -> Answer<u32>
     requires { Held c w.old d.old v.old }
-    ensures { Does (apply (function_step varargs (span first count) ∷ []) b) c w.old d.old v.old (step result) w.new d.new v.new }
+    ensures { Does (apply (function_step varargs (span first count) ∷ []) b) c w.old d.old v.old (reply result) w.new d.new v.new }
 {
-    let result = resolved_kind(w, b);
-    if result == ARRAY_KIND {
-        return Step::Refused(IMPOSSIBLE_TYPE, c.at);
-    }
-    if result == FUNCTION_KIND {
-        return Step::Refused(IMPOSSIBLE_TYPE, c.at);
+    let kind = resolved_kind(w, b);
+    if kind == ARRAY_KIND || kind == FUNCTION_KIND {
+        return Err(Refusal {
+            reason: Reason::ImpossibleType,
+            at: c.at,
+        });
     }
     add_function(w, d, v, c, returned(w, b), varargs, first, count)
 }
 
 // One step.
-fn apply_step(w: &mut [u32], d: &mut [u64], v: &mut [i64], c: Cursor, x: Shape, b: u32) -> Step
+fn apply_step(
+    w: &mut [u32],
+    d: &mut [u64],
+    v: &mut [i64],
+    c: Cursor,
+    x: Shape,
+    b: u32,
+) -> Answer<u32>
     requires { Held c w.old d.old v.old }
-    ensures { Does (apply (shape_step x ∷ []) b) c w.old d.old v.old (step result) w.new d.new v.new }
+    ensures { Does (apply (shape_step x ∷ []) b) c w.old d.old v.old (reply result) w.new d.new v.new }
 {
     match x {
         Shape::Pointer(q) => apply_pointer(w, d, v, c, q, b),
@@ -215,41 +192,47 @@ fn apply_step(w: &mut [u32], d: &mut [u64], v: &mut [i64], c: Cursor, x: Shape, 
 }
 
 // Each step in turn, the newest first.
-pub fn apply(w: &mut [u32], d: &mut [u64], v: &mut [i64], c: Cursor, s: Steps, b: u32) -> Step
+pub fn apply(
+    w: &mut [u32],
+    d: &mut [u64],
+    v: &mut [i64],
+    c: Cursor,
+    s: Steps,
+    b: u32,
+) -> Answer<u32>
     requires { Held c w.old d.old v.old × (s.len ≤ max_steps) }
-    ensures { Does (apply (pending s).steps b) c w.old d.old v.old (step result) w.new d.new v.new }
+    ensures { Does (apply (pending s).steps b) c w.old d.old v.old (reply result) w.new d.new v.new }
 {
-    let mut i = s.len;
     let mut here = c;
     let mut row = b;
-    while 0 < i {
-        i = i - 1;
+    for i in (0..s.len).rev() {
         let x = s.step_at(i).shape();
-        let r = apply_step(w, d, v, here, x, row);
-        let Step::Done(e, n) = r else {
-            return r;
-        };
+        let (e, n) = apply_step(w, d, v, here, x, row)?;
         here = e;
         row = n;
     }
-    Step::Done(here, row)
+    Ok((here, row))
 }
 
 // "A parameter declared as an array or a function is a pointer"; a void one is refused.
-pub fn adjusted(w: &mut [u32], d: &mut [u64], v: &mut [i64], c: Cursor, at: usize, b: u32) -> Step
+pub fn adjusted(
+    w: &mut [u32],
+    d: &mut [u64],
+    v: &mut [i64],
+    c: Cursor,
+    at: usize,
+    b: u32,
+) -> Answer<u32>
     requires { Held c w.old d.old v.old }
-    ensures { Does (adjusted at b) c w.old d.old v.old (step result) w.new d.new v.new }
+    ensures { Does (adjusted at b) c w.old d.old v.old (reply result) w.new d.new v.new }
 {
-    let kind = resolved_kind(w, b);
-    if kind == ARRAY_KIND {
-        let n = resolve(w, b);
-        return add_pointer(w, d, v, c, row_target(w, n));
+    match resolved_kind(w, b) {
+        ARRAY_KIND => add_pointer(w, d, v, c, row_target(w, resolve(w, b))),
+        FUNCTION_KIND => add_pointer(w, d, v, c, b),
+        VOID_KIND => Err(Refusal {
+            reason: Reason::ImpossibleType,
+            at,
+        }),
+        _ => Ok((c, b)),
     }
-    if kind == FUNCTION_KIND {
-        return add_pointer(w, d, v, c, b);
-    }
-    if kind == VOID_KIND {
-        return Step::Refused(IMPOSSIBLE_TYPE, at);
-    }
-    Step::Done(c, b)
 }

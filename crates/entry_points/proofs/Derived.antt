@@ -15,10 +15,8 @@ use Rattle.walks.specs.Walk.{Walks}
 use Rattle.walks.specs.Condition.{Meets}
 use Rattle.walks.proofs.AcceptedWalks.{walks_stay_inside_and_apart}
 use Rattle.clearing.specs.Slices.{lent}
-use Rattle.entry_points.specs.Answers.{counts_of, out, shown, answered}
+use Rattle.entry_points.specs.Answers.{counts_of, Accepted, Rejected, out, shown, answered}
 use Rattle.entry_points.specs.declared.Counts.{Counts}
-use Rattle.entry_points.specs.declared.Outcome.{Outcome}
-use Rattle.entry_points.specs.declared.Outcome.TheVariants.{Accepted, Rejected}
 
 module _ (l : Lent) (model : ℕ) (entry : meant.Entry) (text : Bytes) (w d : List ℕ) (v : List ℤ) where
   -- what the definition says of this call

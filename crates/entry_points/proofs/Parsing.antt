@@ -17,10 +17,8 @@ use Rattle.definition.specs.Reader.{declaration, declarations_from, optional_sem
 use Rattle.definition.specs.NameTable.{name_table}
 use Rattle.definition.specs.Entry as meant
 use Rattle.table.specs.Held.{state, Counts as Counted, Encodes, Long, Left as Remains}
-use Rattle.table.specs.Reply.{Peek, Moves, move}
+use Rattle.table.specs.Reply.{Peek, Moves, ok, bad, none}
 use Rattle.table.specs.declared.Cursor.{Cursor}
-use Rattle.table.specs.declared.Move.{Move}
-use Rattle.table.specs.declared.Move.TheVariants.{To, Refused as Move-as-Refused}
 use Rattle.lemmas.proofs.Branch.{eq_yes, eq_no, le_yes, le_no}
 use Rattle.table.proofs.Shown.{long, room, left, went, said, leaves}
 use Rattle.definition_laws.specs.Columns.{Columns}
@@ -30,7 +28,6 @@ use Rattle.definition.specs.Lent.{zeroed}
 use Rattle.entry_points.specs.Answers.{lexed, first_cursor, Parses, done, stop, counts_from, counts_of, Read, read_tokens}
 use Rattle.entry_points.specs.Answers as answers
 use Rattle.entry_points.specs.declared.Counts.{Counts}
-use Rattle.entry_points.specs.declared.Reading.TheVariants.{Done, Refused}
 
 -- ---- the offset of a token
 
@@ -81,23 +78,21 @@ module _ (ks ps ns : List ℕ) (end : ℕ) (m : Model) where
   unfolding meant.parse one_declaration lone_declaration in_text ◌>>=◌
   one_no n i e = rw e
 
-  module _ {w d w' d' : List ℕ} {v v' : List ℤ} {r : Move} (e : Encodes new_table first_cursor w d v) where
-    module _ (g : Moves whole_from first_cursor w d v (move r) w' d' v') where
-      pub header_done : (c : Cursor) → r ≡ To c → Parses (meant.parse meant.wholeHeader x m) (To c) w' d' v'
-      header_done c q = let h = went (g.run new_table e) (ap move q) in done h.table c (header_got _ h.says) refl h.holds
+  module _ {w d w' d' : List ℕ} {v v' : List ℤ} (e : Encodes new_table first_cursor w d v) where
+    pub header_done : (c : Cursor) → Moves whole_from first_cursor w d v (ok c none) w' d' v' → Parses (meant.parse meant.wholeHeader x m) (got c) w' d' v'
+    header_done c g = let h = went (g.run new_table e) refl in done h.table c (header_got _ h.says) refl h.holds
 
-      pub header_refused : (n i p : ℕ) → r ≡ Move-as-Refused n i → p ≡ here x i → Parses (meant.parse meant.wholeHeader x m) (Move-as-Refused n p) w' d' v'
-      header_refused n i p q h = let f = (g.run new_table e).ends in stop n p (header_no n i (said f (ap move q)) ∙ ap (λ (z : ℕ). refused n z) (sym h)) refl (leaves f (ap move q))
+    pub header_refused : (n i p : ℕ) → Moves whole_from first_cursor w d v (bad n i) w' d' v' → p ≡ here x i → Parses (meant.parse meant.wholeHeader x m) (refused n p) w' d' v'
+    header_refused n i p g h = let f = (g.run new_table e).ends in stop n p (header_no n i (said f refl) ∙ ap (λ (z : ℕ). refused n z) (sym h)) refl (leaves f refl)
 
-    module _ (g : Moves lone_from first_cursor w d v (move r) w' d' v') where
-      pub one-done : (c : Cursor) → r ≡ To c → c.declarations ≤ 1 → Parses (meant.parse meant.singleDeclaration x m) (To c) w' d' v'
-      one-done c q p = let h = went (g.run new_table e) (ap move q) in done h.table c (one-got _ h.says (omega (arith, h.holds.counts.declarations))) refl h.holds
+    pub one-done : (c : Cursor) → Moves lone_from first_cursor w d v (ok c none) w' d' v' → c.declarations ≤ 1 → Parses (meant.parse meant.singleDeclaration x m) (got c) w' d' v'
+    one-done c g p = let h = went (g.run new_table e) refl in done h.table c (one-got _ h.says (omega (arith, h.holds.counts.declarations))) refl h.holds
 
-      pub one_too_many : (c : Cursor) → r ≡ To c → 1 < c.declarations → Parses (meant.parse meant.singleDeclaration x m) (Move-as-Refused 24 0) w' d' v'
-      one_too_many c q p = let h = went (g.run new_table e) (ap move q) in stop 24 0 (one-many _ h.says (omega (arith, h.holds.counts.declarations))) refl (left h.holds)
+    pub one_too_many : (c : Cursor) → Moves lone_from first_cursor w d v (ok c none) w' d' v' → 1 < c.declarations → Parses (meant.parse meant.singleDeclaration x m) (refused 24 0) w' d' v'
+    one_too_many c g p = let h = went (g.run new_table e) refl in stop 24 0 (one-many _ h.says (omega (arith, h.holds.counts.declarations))) refl (left h.holds)
 
-      pub one-refused : (n i p : ℕ) → r ≡ Move-as-Refused n i → p ≡ here x i → Parses (meant.parse meant.singleDeclaration x m) (Move-as-Refused n p) w' d' v'
-      one-refused n i p q h = let f = (g.run new_table e).ends in stop n p (one_no n i (said f (ap move q)) ∙ ap (λ (z : ℕ). refused n z) (sym h)) refl (leaves f (ap move q))
+    pub one-refused : (n i p : ℕ) → Moves lone_from first_cursor w d v (bad n i) w' d' v' → p ≡ here x i → Parses (meant.parse meant.singleDeclaration x m) (refused n p) w' d' v'
+    one-refused n i p g h = let f = (g.run new_table e).ends in stop n p (one_no n i (said f refl) ∙ ap (λ (z : ℕ). refused n z) (sym h)) refl (leaves f refl)
 
 -- ---- what was parsed, with its names
 
@@ -106,20 +101,20 @@ pub record Kept (a : Answer Table) (c : Cursor) (w d : List ℕ) (v : List ℤ) 
   pub says : a ≡ got table
   pub holds : Encodes table c w d v
 
-module _ {a : Answer Table} {r : Move} {w d : List ℕ} {v : List ℤ} where
-  pub kept : {c : Cursor} → Parses a r w d v → r ≡ To c → Kept a c w d v
+module _ {a : Answer Table} {r : Answer Cursor} {w d : List ℕ} {v : List ℤ} where
+  pub kept : {c : Cursor} → Parses a r w d v → r ≡ got c → Kept a c w d v
   kept {c} (done t c' p q e) h = let z : c' ≡ c = cc in record { table = t; says = p; holds = subst (λ (y : Cursor). Encodes t y w d v) z e }
   kept (stop n m p q l) h = let z : ◌≡◌ {A = ℕ} 0 1 = cc in absurd (omega arith)
 
-  pub turned : {n p : ℕ} → Parses a r w d v → r ≡ Move-as-Refused n p → a ≡ refused n p
+  pub turned : {n p : ℕ} → Parses a r w d v → r ≡ refused n p → a ≡ refused n p
   turned (done t c' p q e) h = let z : ◌≡◌ {A = ℕ} 0 1 = cc in absurd (omega arith)
   turned (stop n m p q l) h = cc
 
-  pub remains : {n p : ℕ} → Parses a r w d v → r ≡ Move-as-Refused n p → Remains w d v
+  pub remains : {n p : ℕ} → Parses a r w d v → r ≡ refused n p → Remains w d v
   remains (done t c' p q e) h = let z : ◌≡◌ {A = ℕ} 0 1 = cc in absurd (omega arith)
   remains (stop n m p q l) h = l
 
-  pub kept-words : {c : Cursor} → Parses a r w d v → r ≡ To c → HeldWords c w
+  pub kept-words : {c : Cursor} → Parses a r w d v → r ≡ got c → HeldWords c w
   kept-words p q = let k = kept p q in record { table = k.table; counts = k.holds.counts; words = k.holds.words; marks = k.holds.marks; long = (long k.holds).words; room = room k.holds }
 
 counts-are : (t : Table) (c : Cursor) (n : ℕ) (names : List ℕ) → Counted t c → n ≡ length names → counts_from c n ≡ counts_of (record { table = t; names = names })
@@ -129,18 +124,18 @@ few-names : {ks ps ns : List ℕ} → Columns ks ps ns → (end : ℕ) (t : Tabl
 unfolding name_table
 few-names c end t = c.few t
 
-module _ (entry : meant.Entry) (end : ℕ) (m : Model) {ks ps ns w d : List ℕ} {v : List ℤ} {r : Move} (c : Columns ks ps ns) (p : Parses (meant.parse entry (lexed ks ps ns end) m) r w d v) where
+module _ (entry : meant.Entry) (end : ℕ) (m : Model) {ks ps ns w d : List ℕ} {v : List ℤ} {r : Answer Cursor} (c : Columns ks ps ns) (p : Parses (meant.parse entry (lexed ks ps ns end) m) r w d v) where
   abbrev named : Table → Answer meant.Accepted
   named t = got (record { table = t; names = name_table (lexed ks ps ns end) t })
 
-  pub read_done : {w₀ d₀ w' : List ℕ} {v₀ : List ℤ} (e : Cursor) (n : ℕ) (y : Counts) → r ≡ To e → Writes ks ps ns e w n w' → y ≡ counts_from e n → Read (read_tokens entry (lexed ks ps ns end) m) w₀ d₀ v₀ (Done y) w' d v
+  pub read_done : {w₀ d₀ w' : List ℕ} {v₀ : List ℤ} (e : Cursor) (n : ℕ) (y : Counts) → r ≡ got e → Writes ks ps ns e w n w' → y ≡ counts_from e n → Read (read_tokens entry (lexed ks ps ns end) m) w₀ d₀ v₀ (got y) w' d v
   unfolding read_tokens ◌>>=◌
   read_done e n y q f h =
       let k = kept p q in
       let t = k.table in
       let g = f.run (lexed ks ps ns end) t (record { kinds = refl; places = refl; numbers = refl }) k.holds.counts k.holds.words k.holds.marks in
       let i = k.holds.words.fits in
-      answers.done (record { table = t; names = name_table (lexed ks ps ns end) t }) (ap (λ (b : Answer Table). b >>= named) k.says) (ap Done (h ∙ counts-are t e n (name_table (lexed ks ps ns end) t) k.holds.counts g.count))
+      answers.done (record { table = t; names = name_table (lexed ks ps ns end) t }) (ap (λ (b : Answer Table). b >>= named) k.says) (ap (λ (z : Counts). got z) (h ∙ counts-are t e n (name_table (lexed ks ps ns end) t) k.holds.counts g.count))
       (record {
         words = g.are;
         wides = k.holds.wides.are;
@@ -149,8 +144,8 @@ module _ (entry : meant.Entry) (end : ℕ) (m : Model) {ks ps ns w d : List ℕ}
         few = few-names c end t;
       })
 
-  pub read-refused : (n i : ℕ) → r ≡ Move-as-Refused n i → {w₀ d₀ w'' d'' : List ℕ} {v₀ v'' : List ℤ} → Long w₀ d₀ v₀ → Erased w d v w'' d'' v''
-      → Read (read_tokens entry (lexed ks ps ns end) m) w₀ d₀ v₀ (Refused n i) w'' d'' v''
+  pub read-refused : (n i : ℕ) → r ≡ refused n i → {w₀ d₀ w'' d'' : List ℕ} {v₀ v'' : List ℤ} → Long w₀ d₀ v₀ → Erased w d v w'' d'' v''
+      → Read (read_tokens entry (lexed ks ps ns end) m) w₀ d₀ v₀ (refused n i) w'' d'' v''
   unfolding read_tokens ◌>>=◌ zeroed
   read-refused n i q l f =
       let z = f.run (remains p q) in

@@ -33,14 +33,12 @@ use Rattle.lemmas.proofs.Branch.{yes, nay}
 use Rattle.spellings.specs.Chain.{HeadCount, few, many}
 use Rattle.name_table.specs.Striking.{PlacesBelow}
 use Rattle.lexer.specs.Columns as columns
+use Rattle.entry_points.specs.declared.Counts.{Counts}
 use Rattle.clearing.specs.Slices.{lent}
 use Rattle.entry_points.proofs.Front.{fresh-front, front_zeros, front-filled}
-use Rattle.entry_points.specs.Answers.{lexed, first_cursor, Read, read_tokens, Scratch, FitsIf, Asked, Cleared, as_long, concluded, rejected_at, out, shown, answered, Answers}
+use Rattle.entry_points.specs.Answers.{lexed, first_cursor, Read, read_tokens, Scratch, FitsIf, Asked, Cleared, as_long, concluded, Told, Rejected, rejected_at, out, shown, answered, Answers}
 use Rattle.entry_points.specs.Answers as answers
-use Rattle.entry_points.specs.declared.Reading.{Reading}
 use Rattle.entry_points.specs.declared.Reading.TheVariants.{Refused}
-use Rattle.entry_points.specs.declared.Outcome.{Outcome}
-use Rattle.entry_points.specs.declared.Outcome.TheVariants.{Accepted, Rejected}
 
 -- ---- the tokens of a text
 
@@ -125,12 +123,12 @@ module _ {text : Bytes} {ks ps ns : List ℕ} {count : ℕ} (h : Lexes text ks p
       let b : take count ps ≡ x.places = ap (λ (y : Lexed). y.places) h.same in
       record { at = rw b (λ i l. let q = p.below i l in let m = f.run p.short in omega arith) }
 
-  pub text-done : (entry : meant.Entry) (m : Model) {r : Reading} {w d w' d' : List ℕ} {v v' : List ℤ}
+  pub text-done : (entry : meant.Entry) (m : Model) {r : Answer Counts} {w d w' d' : List ℕ} {v v' : List ℤ}
       → Read (read_tokens entry (lexed (take count ks) (take count ps) (take count ns) (length text)) m) w d v r w' d' v' → Read (meant.read_with m entry text) w d v r w' d' v'
   unfolding meant.read_with read_tokens ◌>>=◌
   text-done entry m g = rw h.says (rw h.same at g)
 
-pub text-refused : (text : Bytes) (entry : meant.Entry) (m : Model) (n at : ℕ) {w d : List ℕ} {v : List ℤ} → tokenize text ≡ refused n at → Read (meant.read_with m entry text) w d v (Refused n at) w d v
+pub text-refused : (text : Bytes) (entry : meant.Entry) (m : Model) (n at : ℕ) {w d : List ℕ} {v : List ℤ} → tokenize text ≡ refused n at → Read (meant.read_with m entry text) w d v (refused n at) w d v
 unfolding meant.read_with ◌>>=◌
 text-refused text entry m n at e = answers.same n at (rw e) refl refl
 
@@ -195,7 +193,7 @@ front-fresh w d v c h = fresh-front c.of w d v c.is (long c.of w d v c.is h)
 pub reject_is : (text : Bytes) (n at : ℕ) (s : Spot) → place s ≡ place_of text at → Rejected n at s.line s.column ≡ rejected_at text n at
 reject_is text n at s e = ap (λ (p : Place). Rejected n at p.line p.column) e
 
-refused-out : (l : Lent) (text : Bytes) (n at : ℕ) (r : Outcome) (w d : List ℕ) (v : List ℤ) (a : Answer meant.Accepted) → a ≡ refused n at → r ≡ rejected_at text n at → lent w d v ≡ zeroed l
+refused-out : (l : Lent) (text : Bytes) (n at : ℕ) (r : Told) (w d : List ℕ) (v : List ℤ) (a : Answer meant.Accepted) → a ≡ refused n at → r ≡ rejected_at text n at → lent w d v ≡ zeroed l
     → out r (lent w d v) ≡ shown l (meant.told text a)
 unfolding shown meant.told left_in
 refused-out l text n at r w d v a p q e = rw (p, q, e)
@@ -204,7 +202,7 @@ refused-out l text n at r w d v a p q e = rw (p, q, e)
 unfoldable pub read_long : Lent → Model → meant.Entry → Bytes → Answer meant.Accepted
 read_long l m entry text = elim (long_enough l) [ true ↦ meant.read_with m entry text | false ↦ refused bad_call 0 ]
 
-pub record Tells (m : Model) (entry : meant.Entry) (text : Bytes) (w d : List ℕ) (v : List ℤ) (r : Outcome) (w' d' : List ℕ) (v' : List ℤ) : Type 0 where
+pub record Tells (m : Model) (entry : meant.Entry) (text : Bytes) (w d : List ℕ) (v : List ℤ) (r : Told) (w' d' : List ℕ) (v' : List ℤ) : Type 0 where
   pub run : (l : Lent) → lent w d v ≡ zeroed l → out r (lent w' d' v') ≡ shown l (meant.told text (read_long l m entry text))
 
 module _ (m : Model) (entry : meant.Entry) (text : Bytes) (w d : List ℕ) (v : List ℤ) where
@@ -212,10 +210,10 @@ module _ (m : Model) (entry : meant.Entry) (text : Bytes) (w d : List ℕ) (v : 
   unfolding read_long
   short l e = nay (long_enough l) (meant.read_with m entry text) (refused 1 0) e
 
-  tells_short : (r : Outcome) → ((l : Lent) → lent w d v ≡ zeroed l → long_enough l ≡ false) → r ≡ rejected_at text 1 0 → Tells m entry text w d v r w d v
+  tells_short : (r : Told) → ((l : Lent) → lent w d v ≡ zeroed l → long_enough l ≡ false) → r ≡ rejected_at text 1 0 → Tells m entry text w d v r w d v
   tells_short r f q = record { run = λ l e. refused-out l text 1 0 r w d v (read_long l m entry text) (short l (f l e)) q e }
 
-  pub tells_too_short : (r : Outcome) → as_long (length w) (length d) (length v) ≡ false → r ≡ rejected_at text 1 0 → Tells m entry text w d v r w d v
+  pub tells_too_short : (r : Told) → as_long (length w) (length d) (length v) ≡ false → r ≡ rejected_at text 1 0 → Tells m entry text w d v r w d v
   tells_too_short r p q = tells_short r (λ l e. sym (as_long_lem l w d v e) ∙ p) q
 
   -- they are long enough: the text is read into their front, and what lies after it stays zero
@@ -224,19 +222,19 @@ module _ (m : Model) (entry : meant.Entry) (text : Bytes) (w d : List ℕ) (v : 
     unfolding read_long
     read-yes l e = yes (long_enough l) (meant.read_with m entry text) (refused 1 0) (long-yes l w d v e h)
 
-    told-front : (l : Lent) → lent w d v ≡ zeroed l → (r : Reading) (ws ds : List ℕ) (vs : List ℤ) → Read (meant.read_with m entry text) (take words_length w) (take wides_length d) (take signeds_length v) r ws ds vs
+    told-front : (l : Lent) → lent w d v ≡ zeroed l → (r : Answer Counts) (ws ds : List ℕ) (vs : List ℤ) → Read (meant.read_with m entry text) (take words_length w) (take wides_length d) (take signeds_length v) r ws ds vs
         → out (concluded text r) (lent (ws ++ drop words_length w) (ds ++ drop wides_length d) (vs ++ drop signeds_length v)) ≡ shown l (meant.told text (read_long l m entry text))
     unfolding shown meant.told
     told-front l e r ws ds vs (answers.done x p q k) = rw (read-yes l e, p, q, k.words, k.wides, k.signeds, front-filled l w d v e x k.limits k.few)
-    told-front l e r ws ds vs (answers.same n at p q s) = refused-out l text n at (concluded text r) _ _ _ (read_long l m entry text) (read-yes l e ∙ p) (ap (λ (x : Reading). concluded text x) q) (front_same l w d v e ws ds vs s ∙ e)
-    told-front l e r ws ds vs (answers.stop n at p q s) = refused-out l text n at (concluded text r) _ _ _ (read_long l m entry text) (read-yes l e ∙ p) (ap (λ (x : Reading). concluded text x) q)
+    told-front l e r ws ds vs (answers.same n at p q s) = refused-out l text n at (concluded text r) _ _ _ (read_long l m entry text) (read-yes l e ∙ p) (ap (λ (x : Answer Counts). concluded text x) q) (front_same l w d v e ws ds vs s ∙ e)
+    told-front l e r ws ds vs (answers.stop n at p q s) = refused-out l text n at (concluded text r) _ _ _ (read_long l m entry text) (read-yes l e ∙ p) (ap (λ (x : Answer Counts). concluded text x) q)
         (front_same l w d v e ws ds vs (s ∙ sym (front_zeros l w d v e (long l w d v e h))) ∙ e)
 
-    pub tells_concluded : {r : Reading} {ws ds : List ℕ} {vs : List ℤ} → Read (meant.read_with m entry text) (take words_length w) (take wides_length d) (take signeds_length v) r ws ds vs → (o : Outcome) → o ≡ concluded text r
+    pub tells_concluded : {r : Answer Counts} {ws ds : List ℕ} {vs : List ℤ} → Read (meant.read_with m entry text) (take words_length w) (take wides_length d) (take signeds_length v) r ws ds vs → (o : Told) → o ≡ concluded text r
         → Tells m entry text w d v o (ws ++ drop words_length w) (ds ++ drop wides_length d) (vs ++ drop signeds_length v)
     tells_concluded {r} {ws} {ds} {vs} f o q = record { run = λ l e. rw q (told-front l e r ws ds vs f) }
 
-module _ (model : ℕ) (entry : meant.Entry) (text : Bytes) (r : Outcome) (w d : List ℕ) (v : List ℤ) where
+module _ (model : ℕ) (entry : meant.Entry) (text : Bytes) (r : Told) (w d : List ℕ) (v : List ℤ) where
   module _ (l : Lent) where
     -- by the model that the number has
     unfoldable by-model : Option Model → Answer meant.Accepted

@@ -1,5 +1,5 @@
 -- What the entries answer, in the definition's terms.
-use Rattle.std.specs.Prelude.{◌≡◌, Bool, ◌&&◌, List, ℕ, ◌≤◌, leb, ℤ, length}
+use Rattle.std.specs.Prelude.{◌≡◌, Bool, ◌&&◌, List, ℕ, ◌≤◌, leb, ℤ, length, Result, Ok, Err}
 use Rattle.definition.specs.Answer.{Answer, got, refused, ◌>>=◌}
 use Rattle.definition.specs.Limit.{max_text, max_names}
 use Rattle.definition.specs.Place.{place_of}
@@ -12,19 +12,15 @@ use Rattle.definition.specs.Entry as meant
 use Rattle.definition.specs.Lent.{Lent, words, wides, signeds, long_enough, zeroed, left_in}
 use Rattle.definition.specs.Region.{words_length, wides_length, signeds_length}
 use Rattle.definition_laws.specs.Inside.{WithinLimits}
+use Rattle.encoding.specs.Refusals.{number_of}
 use Rattle.table.specs.Held.{Encodes, Left as Remains}
 use Rattle.table.specs.declared.Cursor.{Cursor}
-use Rattle.table.specs.declared.Move.{Move}
-use Rattle.table.specs.declared.Move.TheVariants.{To, Refused as Move-as-Refused}
 use Rattle.clearing.specs.Slices.{lent}
 use Rattle.lexer.specs.Columns.{RoomIf, Zero, LinksIf}
 use Rattle.entry_points.specs.declared.Counts.{Counts}
 use Rattle.entry_points.specs.declared.Entry.{Entry}
 use Rattle.entry_points.specs.declared.Entry.TheVariants.{WholeHeader, SingleDeclaration}
-use Rattle.entry_points.specs.declared.Reading.{Reading}
-use Rattle.entry_points.specs.declared.Reading.TheVariants.{Done, Refused}
-use Rattle.entry_points.specs.declared.Outcome.{Outcome}
-use Rattle.entry_points.specs.declared.Outcome.TheVariants.{Accepted, Rejected}
+use Rattle.entry_points.specs.declared.Rejection.{Rejection}
 
 abbrev pub entry_of : Entry → meant.Entry
 entry_of WholeHeader = meant.wholeHeader
@@ -39,9 +35,9 @@ abbrev pub first_cursor : Cursor
 first_cursor = record { at = 0; rows = 1; members = 0; values = 0; parameters = 0; declarations = 0 }
 
 -- a table was read, or refused at an offset, and what was read of it remains
-pub data Parses (a : Answer Table) (r : Move) (w d : List ℕ) (v : List ℤ) : Type 0 where
-  done : (t : Table) (c : Cursor) → a ≡ got t → r ≡ To c → Encodes t c w d v → Parses a r w d v
-  stop : (n p : ℕ) → a ≡ refused n p → r ≡ Move-as-Refused n p → Remains w d v → Parses a r w d v
+pub data Parses (a : Answer Table) (r : Answer Cursor) (w d : List ℕ) (v : List ℤ) : Type 0 where
+  done : (t : Table) (c : Cursor) → a ≡ got t → r ≡ got c → Encodes t c w d v → Parses a r w d v
+  stop : (n p : ℕ) → a ≡ refused n p → r ≡ refused n p → Remains w d v → Parses a r w d v
 
 abbrev pub counts_from : Cursor → ℕ → Counts
 counts_from c names = record { rows = c.rows; members = c.members; values = c.values; parameters = c.parameters; declarations = c.declarations; names = names }
@@ -66,17 +62,17 @@ pub record Holds (a : meant.Accepted) (w d : List ℕ) (v : List ℤ) : Type 0 w
   pub few : length a.names ≤ max_names
 
 -- a text was read, or refused: before a number was written, or in the midst of a table, which is cleared
-pub data Read (a : Answer meant.Accepted) (w d : List ℕ) (v : List ℤ) (r : Reading) (w' d' : List ℕ) (v' : List ℤ) : Type 0 where
-  done : (x : meant.Accepted) → a ≡ got x → r ≡ Done (counts_of x) → Holds x w' d' v' → Read a w d v r w' d' v'
-  same : (n p : ℕ) → a ≡ refused n p → r ≡ Refused n p → lent w' d' v' ≡ lent w d v → Read a w d v r w' d' v'
-  stop : (n p : ℕ) → a ≡ refused n p → r ≡ Refused n p → lent w' d' v' ≡ zeroed (lent w d v) → Read a w d v r w' d' v'
+pub data Read (a : Answer meant.Accepted) (w d : List ℕ) (v : List ℤ) (r : Answer Counts) (w' d' : List ℕ) (v' : List ℤ) : Type 0 where
+  done : (x : meant.Accepted) → a ≡ got x → r ≡ got (counts_of x) → Holds x w' d' v' → Read a w d v r w' d' v'
+  same : (n p : ℕ) → a ≡ refused n p → r ≡ refused n p → lent w' d' v' ≡ lent w d v → Read a w d v r w' d' v'
+  stop : (n p : ℕ) → a ≡ refused n p → r ≡ refused n p → lent w' d' v' ≡ zeroed (lent w d v) → Read a w d v r w' d' v'
 
 unfoldable pub read_tokens : meant.Entry → Lexed → Model → Answer meant.Accepted
 read_tokens entry x m = do
   t ← meant.parse entry x m
   got (record { table = t; names = name_table x t })
 
-abbrev pub Reads : meant.Entry → Lexed → Model → List ℕ → List ℕ → List ℤ → Reading → List ℕ → List ℕ → List ℤ → Type 0
+abbrev pub Reads : meant.Entry → Lexed → Model → List ℕ → List ℕ → List ℤ → Answer Counts → List ℕ → List ℕ → List ℤ → Type 0
 Reads entry x m = Read (read_tokens entry x m)
 
 -- ---- scratch
@@ -109,18 +105,27 @@ as_long words wides signeds = leb words_length words && (leb wides_length wides 
 
 -- ---- the outcome
 
+-- the counts of an accepted text; or the number of a refusal, its offset, line and column
+pub data Told : Type 0 where
+  Accepted : Counts → Told
+  Rejected : ℕ → ℕ → ℕ → ℕ → Told
+
+abbrev pub told : Result Counts Rejection → Told
+told (Ok c) = Accepted c
+told (Err e) = Rejected (number_of e.reason) e.offset e.line e.column
+
 -- a refusal, with the line and the column of its offset
-abbrev pub rejected_at : Bytes → ℕ → ℕ → Outcome
+abbrev pub rejected_at : Bytes → ℕ → ℕ → Told
 rejected_at text n at = Rejected n at (place_of text at).line (place_of text at).column
 
 -- what is told after a reading
-abbrev pub concluded : Bytes → Reading → Outcome
-concluded text (Done c) = Accepted c
-concluded text (Refused n p) = rejected_at text n p
+abbrev pub concluded : Bytes → Answer Counts → Told
+concluded text (got c) = Accepted c
+concluded text (refused n p) = rejected_at text n p
 
 -- what the caller is told, and what stands in the slices then
 pub data Out : Type 0 where
-  out : Outcome → Lent → Out
+  out : Told → Lent → Out
 
 unfoldable pub shown : Lent → meant.Outcome → Out
 shown l (meant.accepted a) = out (Accepted (counts_of a)) (left_in l (meant.accepted a))
@@ -130,5 +135,5 @@ unfoldable pub answered : Lent → ℕ → meant.Entry → Bytes → Out
 answered l model entry text = shown l (meant.outcome model (long_enough l) entry text)
 
 -- in cleared slices: so it is whatever stood there before
-pub record Answers (model : ℕ) (entry : meant.Entry) (text : Bytes) (w d : List ℕ) (v : List ℤ) (r : Outcome) (w' d' : List ℕ) (v' : List ℤ) : Type 0 where
+pub record Answers (model : ℕ) (entry : meant.Entry) (text : Bytes) (w d : List ℕ) (v : List ℤ) (r : Told) (w' d' : List ℕ) (v' : List ℤ) : Type 0 where
   pub run : (l : Lent) → lent w d v ≡ zeroed l → out r (lent w' d' v') ≡ answered l model entry text

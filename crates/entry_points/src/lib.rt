@@ -13,11 +13,12 @@ ghost use Rattle.spellings.specs.Chain.{HeadCount};
 ghost use Rattle.clearing.specs.Slices.{lent};
 ghost use Rattle.definition.specs.Lent.{long_enough};
 ghost use Rattle.entry_points.specs.Walking.{Walkable};
-ghost use Rattle.entry_points.specs.Answers.{entry_of, lexed, first_cursor, counts_from, Parses, Read, Reads, Scratch, FitsIf, Asked, Cleared, as_long, concluded, rejected_at, out, answered, Answers};
+ghost use Rattle.entry_points.specs.Answers.{entry_of, lexed, first_cursor, counts_from, Parses, Read, Reads, Scratch, FitsIf, Asked, Cleared, as_long, concluded, told, rejected_at, out, answered, Answers};
+ghost use Rattle.encoding.specs.Refusals.{number_of, answer};
 
 use clearing::clear;
 use declarations::{declarations, lone_declaration};
-use encoding::refusals::{BAD_CALL, NOT_ONE_DECLARATION};
+use encoding::refusals::{Reason, Refusal};
 use encoding::regions::{SIGNEDS, WIDES, WORDS};
 use encoding::token_kinds::END;
 use erasing::clear_left;
@@ -26,7 +27,7 @@ use model::Model;
 use name_table::fill_names;
 use scan::line_column;
 use spellings::{FEW_HEADS, HEADS, LINKS};
-use table::{Cursor, Move, kind_at};
+use table::{Cursor, kind_at};
 
 // A text is read in scratch of the first of these lengths that is not less than its own: all of it has to be cleared.
 const TINY_TEXT: usize = 64;
@@ -58,19 +59,17 @@ pub struct Counts {
     pub names: usize,
 }
 
-// What the caller is told: counts, or a refusal with its number, offset, line and column.
-#[derive(Clone, Copy)]
-pub enum Outcome {
-    Accepted(Counts),
-    Rejected(u32, usize, usize, usize),
+// A refusal, with the line and the column of its offset.
+#[derive(Clone, Copy, PartialEq, Eq)]
+pub struct Rejection {
+    pub reason: Reason,
+    pub offset: usize,
+    pub line: usize,
+    pub column: usize,
 }
 
-// How a text was read: counts, or a refusal with its number and offset.
-#[derive(Clone, Copy)]
-pub enum Reading {
-    Done(Counts),
-    Refused(u32, usize),
-}
+// What the caller is told.
+pub type Outcome = Result<Counts, Rejection>;
 
 #[derive(Clone, Copy)]
 pub enum Entry {
@@ -113,15 +112,17 @@ fn parse_header(
     w: &mut [u32],
     d: &mut [u64],
     v: &mut [i64],
-) -> Move
+) -> Result<Cursor, Refusal>
     requires columns { Columns kinds.now places.now numbers.now }
     requires encodes { Encodes new_table first_cursor w.old d.old v.old }
-    ensures { Parses (parse (entry_of Entry.WholeHeader) (lexed kinds.now places.now numbers.now end) (model m)) result w.new d.new v.new }
+    ensures { Parses (parse (entry_of Entry.WholeHeader) (lexed kinds.now places.now numbers.now end) (model m)) (answer result) w.new d.new v.new }
 {
-    let r = declarations(kinds, numbers, w, d, v, first_cursor(), m);
-    match r {
-        Move::To(c) => Move::To(c),
-        Move::Refused(n, at) => Move::Refused(n, offset_of(kinds, places, numbers, end, at)),
+    match declarations(kinds, numbers, w, d, v, first_cursor(), m) {
+        Ok(c) => Ok(c),
+        Err(e) => Err(Refusal {
+            reason: e.reason,
+            at: offset_of(kinds, places, numbers, end, e.at),
+        }),
     }
 }
 
@@ -135,20 +136,25 @@ fn parse_declaration(
     w: &mut [u32],
     d: &mut [u64],
     v: &mut [i64],
-) -> Move
+) -> Result<Cursor, Refusal>
     requires columns { Columns kinds.now places.now numbers.now }
     requires encodes { Encodes new_table first_cursor w.old d.old v.old }
-    ensures { Parses (parse (entry_of Entry.SingleDeclaration) (lexed kinds.now places.now numbers.now end) (model m)) result w.new d.new v.new }
+    ensures { Parses (parse (entry_of Entry.SingleDeclaration) (lexed kinds.now places.now numbers.now end) (model m)) (answer result) w.new d.new v.new }
 {
-    let r = lone_declaration(kinds, numbers, w, d, v, first_cursor(), m);
-    match r {
-        Move::To(c) => {
+    match lone_declaration(kinds, numbers, w, d, v, first_cursor(), m) {
+        Ok(c) => {
             if c.declarations <= 1 {
-                return Move::To(c);
+                return Ok(c);
             }
-            Move::Refused(NOT_ONE_DECLARATION, 0)
+            Err(Refusal {
+                reason: Reason::NotOneDeclaration,
+                at: 0,
+            })
         }
-        Move::Refused(n, at) => Move::Refused(n, offset_of(kinds, places, numbers, end, at)),
+        Err(e) => Err(Refusal {
+            reason: e.reason,
+            at: offset_of(kinds, places, numbers, end, e.at),
+        }),
     }
 }
 
@@ -162,10 +168,10 @@ fn parse_tokens(
     w: &mut [u32],
     d: &mut [u64],
     v: &mut [i64],
-) -> Move
+) -> Result<Cursor, Refusal>
     requires columns { Columns kinds.now places.now numbers.now }
     requires encodes { Encodes new_table first_cursor w.old d.old v.old }
-    ensures { Parses (parse (entry_of entry) (lexed kinds.now places.now numbers.now end) (model m)) result w.new d.new v.new }
+    ensures { Parses (parse (entry_of entry) (lexed kinds.now places.now numbers.now end) (model m)) (answer result) w.new d.new v.new }
 {
     match entry {
         Entry::WholeHeader => parse_header(kinds, places, numbers, end, m, w, d, v),
@@ -200,21 +206,20 @@ fn read_tokens(
     w: &mut [u32],
     d: &mut [u64],
     v: &mut [i64],
-) -> Reading
+) -> Result<Counts, Refusal>
     requires columns { Columns kinds.now places.now numbers.now }
     requires places_below { PlacesBelow places.now (length listed.old) }
     requires encodes { Encodes new_table first_cursor w.old d.old v.old }
-    ensures { Reads (entry_of entry) (lexed kinds.now places.now numbers.now end) (model m) w.old d.old v.old result w.new d.new v.new }
+    ensures { Reads (entry_of entry) (lexed kinds.now places.now numbers.now end) (model m) w.old d.old v.old (answer result) w.new d.new v.new }
 {
-    let r = parse_tokens(entry, kinds, places, numbers, end, m, w, d, v);
-    match r {
-        Move::To(c) => {
+    match parse_tokens(entry, kinds, places, numbers, end, m, w, d, v) {
+        Ok(c) => {
             let names = fill_names(kinds, places, numbers, listed, w, c);
-            Reading::Done(counted(c, names))
+            Ok(counted(c, names))
         }
-        Move::Refused(n, p) => {
+        Err(e) => {
             clear_left(w, d, v);
-            Reading::Refused(n, p)
+            Err(e)
         }
     }
 }
@@ -232,26 +237,24 @@ fn read_columns(
     w: &mut [u32],
     d: &mut [u64],
     v: &mut [i64],
-) -> Reading
+) -> Result<Counts, Refusal>
     requires scratch { Scratch text.now kinds.old places.old numbers.old links.old heads }
     requires encodes { Encodes new_table first_cursor w.old d.old v.old }
-    ensures { Read (read_with (model m) (entry_of entry) text.now) w.old d.old v.old result w.new d.new v.new }
+    ensures { Read (read_with (model m) (entry_of entry) text.now) w.old d.old v.old (answer result) w.new d.new v.new }
 {
-    match lex(text, kinds, places, numbers, links, heads) {
-        Ok(count) => read_tokens(
-            entry,
-            &kinds[..count],
-            &places[..count],
-            &numbers[..count],
-            links,
-            text.len(),
-            m,
-            w,
-            d,
-            v,
-        ),
-        Err(refusal) => Reading::Refused(u32::from(refusal.reason), refusal.at),
-    }
+    let count = lex(text, kinds, places, numbers, links, heads)?;
+    read_tokens(
+        entry,
+        &kinds[..count],
+        &places[..count],
+        &numbers[..count],
+        links,
+        text.len(),
+        m,
+        w,
+        d,
+        v,
+    )
 }
 
 // In scratch of a length, with links for so many heads.
@@ -263,13 +266,13 @@ fn read_in<const LENGTH: usize, const LINKED: usize>(
     w: &mut [u32],
     d: &mut [u64],
     v: &mut [i64],
-) -> Reading
+) -> Result<Counts, Refusal>
     requires fits_if { FitsIf (length text.now) LENGTH }
     requires short { LENGTH ≤ max_text }
     requires head_count { HeadCount heads }
     requires linked { LINKED ≡ heads + 2 * LENGTH }
     requires encodes { Encodes new_table first_cursor w.old d.old v.old }
-    ensures { Read (read_with (model m) (entry_of entry) text.now) w.old d.old v.old result w.new d.new v.new }
+    ensures { Read (read_with (model m) (entry_of entry) text.now) w.old d.old v.old (answer result) w.new d.new v.new }
 {
     let mut kinds = [0u32; LENGTH];
     let mut places = [0u32; LENGTH];
@@ -300,10 +303,10 @@ fn read_asked(
     w: &mut [u32],
     d: &mut [u64],
     v: &mut [i64],
-) -> Reading
+) -> Result<Counts, Refusal>
     requires asked { Asked (length text.now) asked }
     requires encodes { Encodes new_table first_cursor w.old d.old v.old }
-    ensures { Read (read_with (model m) (entry_of entry) text.now) w.old d.old v.old result w.new d.new v.new }
+    ensures { Read (read_with (model m) (entry_of entry) text.now) w.old d.old v.old (answer result) w.new d.new v.new }
 {
     if Model::MAX_TEXT < asked {
         return read_asked(entry, text, asked / Model::MAX_TEXT, m, w, d, v);
@@ -325,27 +328,32 @@ fn read_asked(
 
 // ---- the entries
 
-fn reject(text: &[u8], n: u32, offset: usize) -> Outcome
-    ensures { result ≡ rejected_at text.now n offset }
+fn reject(text: &[u8], e: Refusal) -> Outcome
+    ensures { told result ≡ rejected_at text.now (number_of e.reason) e.at }
 {
-    let spot = line_column(text, offset);
-    Outcome::Rejected(n, offset, spot.line, spot.column)
+    let spot = line_column(text, e.at);
+    Err(Rejection {
+        reason: e.reason,
+        offset: e.at,
+        line: spot.line,
+        column: spot.column,
+    })
 }
 
 // As long as the limits ask.
 fn long_enough(words: usize, wides: usize, signeds: usize) -> bool
     ensures { result ≡ as_long words wides signeds }
 {
-    (WORDS <= words) & ((WIDES <= wides) & (SIGNEDS <= signeds))
+    WORDS <= words && WIDES <= wides && SIGNEDS <= signeds
 }
 
 // What the caller is told.
-fn conclude(text: &[u8], reading: Reading) -> Outcome
-    ensures { result ≡ concluded text.now reading }
+fn conclude(text: &[u8], reading: Result<Counts, Refusal>) -> Outcome
+    ensures { told result ≡ concluded text.now (answer reading) }
 {
     match reading {
-        Reading::Done(counts) => Outcome::Accepted(counts),
-        Reading::Refused(n, offset) => reject(text, n, offset),
+        Ok(counts) => Ok(counts),
+        Err(e) => reject(text, e),
     }
 }
 
@@ -359,27 +367,28 @@ fn read(
     v: &mut [i64],
 ) -> Outcome
     requires { Cleared w.old d.old v.old }
-    ensures { Answers number (entry_of entry) text.now w.old d.old v.old result w.new d.new v.new }
+    ensures { Answers number (entry_of entry) text.now w.old d.old v.old (told result) w.new d.new v.new }
 {
-    let found = Model::numbered(number);
-    match found {
-        Some(m) => {
-            if long_enough(w.len(), d.len(), v.len()) {
-                let r = read_asked(
-                    entry,
-                    text,
-                    text.len(),
-                    m,
-                    &mut w[..WORDS],
-                    &mut d[..WIDES],
-                    &mut v[..SIGNEDS],
-                );
-                return conclude(text, r);
-            }
-            reject(text, BAD_CALL, 0)
-        }
-        None => reject(text, BAD_CALL, 0),
+    let bad_call = Refusal {
+        reason: Reason::BadCall,
+        at: 0,
+    };
+    let Some(m) = Model::numbered(number) else {
+        return reject(text, bad_call);
+    };
+    if !long_enough(w.len(), d.len(), v.len()) {
+        return reject(text, bad_call);
     }
+    let r = read_asked(
+        entry,
+        text,
+        text.len(),
+        m,
+        &mut w[..WORDS],
+        &mut d[..WIDES],
+        &mut v[..SIGNEDS],
+    );
+    conclude(text, r)
 }
 
 // A whole header.
@@ -390,7 +399,7 @@ pub fn translation_unit(
     d: &mut [u64],
     v: &mut [i64],
 ) -> Outcome
-    ensures v_after { out result (lent w.new d.new v.new) ≡ answered (lent w.old d.old v.old) model wholeHeader text.now }
+    ensures v_after { out (told result) (lent w.new d.new v.new) ≡ answered (lent w.old d.old v.old) model wholeHeader text.now }
     ensures walkable { Walkable model (long_enough (lent w.old d.old v.old)) wholeHeader text.now }
 {
     clear(w, d, v);
@@ -399,7 +408,7 @@ pub fn translation_unit(
 
 // One declaration.
 pub fn declaration(text: &[u8], model: u32, w: &mut [u32], d: &mut [u64], v: &mut [i64]) -> Outcome
-    ensures v_after { out result (lent w.new d.new v.new) ≡ answered (lent w.old d.old v.old) model singleDeclaration text.now }
+    ensures v_after { out (told result) (lent w.new d.new v.new) ≡ answered (lent w.old d.old v.old) model singleDeclaration text.now }
     ensures walkable { Walkable model (long_enough (lent w.old d.old v.old)) singleDeclaration text.now }
 {
     clear(w, d, v);
@@ -415,7 +424,7 @@ pub fn translation_unit_in_zeros(
     v: &mut [i64],
 ) -> Outcome
     requires { Cleared w.old d.old v.old }
-    ensures v_after { out result (lent w.new d.new v.new) ≡ answered (lent w.old d.old v.old) model wholeHeader text.now }
+    ensures v_after { out (told result) (lent w.new d.new v.new) ≡ answered (lent w.old d.old v.old) model wholeHeader text.now }
     ensures walkable { Walkable model (long_enough (lent w.old d.old v.old)) wholeHeader text.now }
 {
     read(Entry::WholeHeader, text, model, w, d, v)
@@ -430,7 +439,7 @@ pub fn declaration_in_zeros(
     v: &mut [i64],
 ) -> Outcome
     requires { Cleared w.old d.old v.old }
-    ensures v_after { out result (lent w.new d.new v.new) ≡ answered (lent w.old d.old v.old) model singleDeclaration text.now }
+    ensures v_after { out (told result) (lent w.new d.new v.new) ≡ answered (lent w.old d.old v.old) model singleDeclaration text.now }
     ensures walkable { Walkable model (long_enough (lent w.old d.old v.old)) singleDeclaration text.now }
 {
     read(Entry::SingleDeclaration, text, model, w, d, v)

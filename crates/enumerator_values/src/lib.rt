@@ -7,34 +7,18 @@ ghost use Rattle.definition.specs.Reader.{levels};
 ghost use Rattle.constants.specs.Reading.{tokens};
 ghost use Rattle.table.specs.Held.{Room};
 ghost use Rattle.evaluating.specs.Leaves.{Leaves};
-ghost use Rattle.enumerator_values.specs.Pending.{pending, given};
+ghost use Rattle.table.specs.Reply.{reply_by};
+ghost use Rattle.enumerator_values.specs.Pending.{pending};
 
 use encoding::token_kinds::EQUALS;
 use evaluating::constant_here;
-use table::{Cursor, kind_at};
+use table::{Answer, Cursor, kind_at};
 
-// The value of an enumerator that has none of its own; after the greatest of all, there is none.
-#[derive(Clone, Copy)]
-pub enum Next {
-    Value(i64),
-    Past,
-}
-
-// What an enumerator's value is, and where to read on; or a refusal.
-#[derive(Clone, Copy)]
-pub enum Given {
-    Reads(Cursor, Next),
-    Refused(u32, usize),
-}
-
-// One more than the value before.
-pub fn counted_on(z: i64) -> Next
+// One more than the value before; after the greatest of all, there is none.
+pub fn counted_on(z: i64) -> Option<i64>
     ensures { pending result ≡ suc_ℤ z }
 {
-    if z == i64::MAX {
-        return Next::Past;
-    }
-    Next::Value(z + 1)
+    z.checked_add(1)
 }
 
 // `= constant`, or the value after the one before.
@@ -44,19 +28,16 @@ pub fn enumerator_value(
     w: &[u32],
     v: &[i64],
     c: Cursor,
-    next: Next,
+    next: Option<i64>,
     room: u32,
-) -> Given
+) -> Answer<Option<i64>>
     requires { Room c }
-    ensures { Leaves (λ m. enumerator_value (tokens kinds.now numbers.now) m (levels (tokens kinds.now numbers.now) m room) (pending next)) c w.now v.now (given result) }
+    ensures { Leaves (λ m. enumerator_value (tokens kinds.now numbers.now) m (levels (tokens kinds.now numbers.now) m room) (pending next)) c w.now v.now (reply_by pending result) }
 {
     let at = c.at;
     if kind_at(kinds, at) != EQUALS {
-        return Given::Reads(c, next);
+        return Ok((c, next));
     }
-    let r = constant_here(kinds, numbers, w, v, c.moved(at + 1), room);
-    match r {
-        Ok((e, z)) => Given::Reads(e, Next::Value(z)),
-        Err(x) => Given::Refused(u32::from(x.reason), x.at),
-    }
+    let (e, z) = constant_here(kinds, numbers, w, v, c.moved(at + 1), room)?;
+    Ok((e, Some(z)))
 }

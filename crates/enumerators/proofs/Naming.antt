@@ -15,14 +15,11 @@ use Rattle.definition.specs.Kind.{is_name}
 use Rattle.definition.specs.Range.{above_range, in_range, ranged}
 use Rattle.definition.specs.Refusal.{out_of_range}
 use Rattle.definition.specs.Table.{mark_of, push_value}
-use Rattle.table.specs.Reply.{Peek, Reply, ok, Does}
+use Rattle.table.specs.Reply.{Peek, Reply, Does}
 use Rattle.table.specs.Store.{value_pushed}
 use Rattle.table.specs.declared.Cursor.{Cursor}
-use Rattle.enumerator_values.specs.declared.Next.{Next}
-use Rattle.enumerator_values.specs.declared.Next.TheVariants.{Value, Past}
-use Rattle.enumerator_values.specs.declared.Given.{Given}
-use Rattle.enumerator_values.specs.declared.Given.TheVariants.{Reads}
-use Rattle.enumerator_values.specs.Pending.{pending, given}
+use Rattle.std.specs.Prelude.{Option, Some, None}
+use Rattle.enumerator_values.specs.Pending.{pending}
 use Rattle.lemmas.proofs.Branch.{yes}
 use Rattle.constants.proofs.Steps.{there}
 
@@ -55,16 +52,12 @@ pub in_range_lem : (at : ℕ) (z : ℤ) → SFits w64 z → ranged at z ≡ got 
 unfolding ranged
 in_range_lem at z f = yes _ _ _ (fits-range z f)
 
--- what the code keeps of a value is its 64 bits
-module _ {g : Given} {n : Next} {e : Cursor} (p : g ≡ Reads e n) where
-  pub passed : n ≡ Past → given g ≡ ok e (pos above_range)
-  passed q = ap given p ∙ ap (λ x. ok e x) (ap pending q)
+-- the value that is pending: past the greatest, or kept as its 64 bits
+pub passed : (at : ℕ) {n : Option ℤ} → n ≡ None → ranged at (pending n) ≡ refused out_of_range at
+passed at q = ap (λ k. ranged at (pending k)) q ∙ past-range at
 
-  pub kept : {z : ℤ} → n ≡ Value z → SFits w64 z → given g ≡ ok e (to_z w64 (of_z w64 z))
-  kept q f = ap given p ∙ ap (λ x. ok e x) (ap pending q ∙ sym (to_z-of_z f))
-
-pub kept-range : (at : ℕ) (z : ℤ) → SFits w64 z → ranged at (to_z w64 (of_z w64 z)) ≡ got (to_z w64 (of_z w64 z))
-kept-range at z f = in_range_lem at _ (rw (to_z-of_z f) f)
+pub kept-range : (at : ℕ) {n : Option ℤ} {z : ℤ} → n ≡ Some z → SFits w64 z → ranged at (pending n) ≡ got (to_z w64 (of_z w64 z))
+kept-range at q f = ap (λ k. ranged at (pending k)) q ∙ (in_range_lem at _ f ∙ ap got (sym (to_z-of_z f)))
 
 -- the entry of an enumerator: the mark of its list, and the name of its token
 pub entered : {c : Cursor} {w d w' d' ns : List ℕ} {v v' : List ℤ} {r : Reply ℕ} {n i : ℕ} (first : ℕ) (x : ℤ) → Peek ns i n → Does (value_pushed (1024 + first) n x) c w d v r w' d' v'

@@ -1,13 +1,13 @@
 #![tactic(auto)]
 // The constant of a level of nesting, its enumerators those of the table that the slices hold.
 ghost use Rattle.definition.specs.Reader.{levels};
-ghost use Rattle.constants.specs.Here.{evaluated};
 ghost use Rattle.constants.specs.Reading.{tokens};
 ghost use Rattle.table.specs.Held.{Room};
+ghost use Rattle.table.specs.Reply.{reply};
 ghost use Rattle.evaluating.specs.Leaves.{Leaves};
 
 use encoding::refusals::{Reason, Refusal};
-use table::Cursor;
+use table::{Answer, Cursor};
 
 // The constant here, with `room` levels of nesting left.
 pub fn constant_here(
@@ -17,9 +17,9 @@ pub fn constant_here(
     v: &[i64],
     c: Cursor,
     room: u32,
-) -> Result<(Cursor, i64), Refusal>
+) -> Answer<i64>
     requires { Room c }
-    ensures { Leaves (λ m. (levels (tokens kinds.now numbers.now) m room).constant) c w.now v.now (evaluated result) }
+    ensures { Leaves (λ m. (levels (tokens kinds.now numbers.now) m room).constant) c w.now v.now (reply result) }
 {
     if room == 0 {
         return Err(Refusal {

@@ -7,22 +7,20 @@ ghost use Rattle.definition.specs.Model.{Model};
 ghost use Rattle.definition.specs.Grammar.{Levels};
 ghost use Rattle.definition.specs.Composite.{anonymous_member, is_composite};
 ghost use Rattle.table.specs.Held.{Held};
-ghost use Rattle.table.specs.Reply.{move, Moves};
+ghost use Rattle.table.specs.Reply.{reply_alone, Moves};
 ghost use Rattle.fields.specs.Fields.{width_in, field_pushed};
 
-use encoding::refusals::MISSING_NAME;
+use encoding::refusals::{Reason, Refusal};
 use encoding::regions::OPEN_LIST;
 use encoding::row_kinds::{STRUCT_KIND, UNION_KIND};
 use named_rows::resolved_kind;
-use table::{Cursor, Move, Step, push_member};
+use table::{Cursor, push_member};
 
+#[tactic(auto, unfolding(definition::specs::Composite::is_composite))]
 fn is_composite(kind: u32) -> bool
     ensures { result ≡ is_composite kind }
 {
-    if kind == STRUCT_KIND {
-        return true;
-    }
-    kind == UNION_KIND
+    kind == STRUCT_KIND || kind == UNION_KIND
 }
 
 // The next member of the body whose first entry is `first`; `at` is its token. The width is 0 for a plain member, else 1 more than it.
@@ -36,15 +34,12 @@ pub fn push_field(
     name: u32,
     width: u32,
     at: usize,
-) -> Move
+) -> Result<Cursor, Refusal>
     requires { Held c w.old d.old v.old × (first ≤ max_members) }
-    ensures { Moves (field_pushed first ty name (width_in width) at) c w.old d.old v.old (move result) w.new d.new v.new }
+    ensures { Moves (field_pushed first ty name (width_in width) at) c w.old d.old v.old (reply_alone result) w.new d.new v.new }
 {
-    let r = push_member(w, d, v, c, OPEN_LIST + first, ty, name, width, at as u64);
-    match r {
-        Step::Done(e, _) => Move::To(e),
-        Step::Refused(n, p) => Move::Refused(n, p),
-    }
+    let (e, _) = push_member(w, d, v, c, OPEN_LIST + first, ty, name, width, at as u64)?;
+    Ok(e)
 }
 
 // An anonymous member is a struct or union.
@@ -56,12 +51,15 @@ pub fn anonymous_member(
     first: u32,
     b: u32,
     at: usize,
-) -> Move
+) -> Result<Cursor, Refusal>
     requires { Held c w.old d.old v.old × (first ≤ max_members) }
-    ensures { (ts : Tokens) (m : Model) (next : Levels) → Moves (anonymous_member ts m next first b at) c w.old d.old v.old (move result) w.new d.new v.new }
+    ensures { (ts : Tokens) (m : Model) (next : Levels) → Moves (anonymous_member ts m next first b at) c w.old d.old v.old (reply_alone result) w.new d.new v.new }
 {
     if !is_composite(resolved_kind(w, b)) {
-        return Move::Refused(MISSING_NAME, at);
+        return Err(Refusal {
+            reason: Reason::MissingName,
+            at,
+        });
     }
     push_field(w, d, v, c, first, b, 0, 0, at)
 }

@@ -7,25 +7,26 @@ ghost use Rattle.definition.specs.Reader.{levels};
 ghost use Rattle.definition.specs.Region.{words_length, wides_length};
 ghost use Rattle.constants.specs.Reading.{tokens};
 ghost use Rattle.table.specs.Held.{Held, Room};
-ghost use Rattle.table.specs.Reply.{move, Moves};
+ghost use Rattle.table.specs.Reply.{reply_alone, reply_by, Moves};
 ghost use Rattle.model.specs.Meaning.{model};
 ghost use Rattle.member_entries.specs.Pieces.{field, closed};
 ghost use Rattle.member_entries.specs.Ended.{laid, Closes};
 
 use bounds_widths::bit_width;
 use encoding::names::NO_NAME;
-use encoding::refusals::MISSING_NAME;
+use encoding::refusals::{Reason, Refusal};
 use fields::push_field;
 use layout::layout;
 use model::Model;
 use open_lists::{field_count, fields_only};
-use table::{Cursor, Move, Step};
+use table::{Answer, Cursor};
 
-// A body that was laid out: where to read on, its size, its first field and how many there are; or a refusal.
+// A body that was laid out: its size, its first field and how many there are.
 #[derive(Clone, Copy)]
-pub enum Laid {
-    Body(Cursor, u64, u32, u32),
-    Refused(u32, usize),
+pub struct Body {
+    pub size: u64,
+    pub first: u32,
+    pub count: u32,
 }
 
 // A member of a type, with its width. `unnamed` where a bit-field stands without a declarator: every other member has a name.
@@ -42,20 +43,18 @@ pub fn field(
     unnamed: bool,
     at: usize,
     room: u32,
-) -> Move
+) -> Result<Cursor, Refusal>
     requires { Held c w.old d.old v.old × (first ≤ max_members) }
-    ensures { (m : MeantModel) → Moves (field (tokens kinds.now numbers.now) m (levels (tokens kinds.now numbers.now) m room) unnamed first ty name at) c w.old d.old v.old (move result) w.new d.new v.new }
+    ensures { (m : MeantModel) → Moves (field (tokens kinds.now numbers.now) m (levels (tokens kinds.now numbers.now) m room) unnamed first ty name at) c w.old d.old v.old (reply_alone result) w.new d.new v.new }
 {
-    let r = bit_width(kinds, numbers, w, v, c, at, room);
-    match r {
-        Step::Done(e, width) => {
-            if !unnamed & (name == NO_NAME) {
-                return Move::Refused(MISSING_NAME, at);
-            }
-            push_field(w, d, v, e, first, ty, name, width, at)
-        }
-        Step::Refused(n, p) => Move::Refused(n, p),
+    let (e, width) = bit_width(kinds, numbers, w, v, c, at, room)?;
+    if !unnamed && name == NO_NAME {
+        return Err(Refusal {
+            reason: Reason::MissingName,
+            at,
+        });
     }
+    push_field(w, d, v, e, first, ty, name, width, at)
 }
 
 // The members are laid out; those of width 0 are no fields, and are not counted. `at` is the tag's place.
@@ -67,17 +66,12 @@ pub fn close_body(
     union: bool,
     first: u32,
     at: usize,
-) -> Laid
+) -> Answer<Body>
     requires { (length w.old ≡ words_length) × (length d.old ≡ wides_length) × Room c }
-    ensures { Closes (closed (model m) union first at) c w.old d.old (laid result) w.new d.new }
+    ensures { Closes (closed (model m) union first at) c w.old d.old (reply_by laid result) w.new d.new }
 {
-    let l = layout(m, w, d, c, union, first, at);
-    match l {
-        Ok(size) => {
-            fields_only(w, c, first);
-            let count = field_count(w, c, first);
-            Laid::Body(c, size, first, count)
-        }
-        Err(e) => Laid::Refused(u32::from(e.reason), e.at),
-    }
+    let size = layout(m, w, d, c, union, first, at)?;
+    fields_only(w, c, first);
+    let count = field_count(w, c, first);
+    Ok((c, Body { size, first, count }))
 }

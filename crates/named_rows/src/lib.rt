@@ -9,29 +9,20 @@ ghost use Rattle.definition.specs.Composite.{tag_row};
 ghost use Rattle.definition.specs.Enumeration.{enum_tag_row};
 ghost use Rattle.definition.specs.Region.{members_at};
 ghost use Rattle.table.specs.Held.{Held, Room};
-ghost use Rattle.table.specs.Reply.{step, Does, WordIs};
+ghost use Rattle.table.specs.Reply.{reply, Does, WordIs};
 ghost use Rattle.named_rows.specs.Finds.{Says, Finds};
 
 use encoding::regions::{ROW_COLUMNS, ROW_NAME, WORDS};
 use encoding::row_kinds::{ENUM_KIND, QUALIFIED_KIND, STRUCT_KIND, TYPEDEF_KIND, UNION_KIND};
 use model::Model;
-use table::{Cursor, Numbers, Step, first_named, push_row, row_kind, row_target};
-
-#[derive(Clone, Copy)]
-pub enum Found {
-    At(u32),
-    Nothing,
-}
+use table::{Answer, Cursor, Numbers, first_named, push_row, row_kind, row_target};
 
 // A name for a type, or a type with qualifiers.
 pub fn is_alias(w: &[u32], n: u32) -> bool
     ensures { Says (λ t. is_alias (row_at t n)) w.now result }
 {
     let kind = row_kind(w, n);
-    if kind == TYPEDEF_KIND {
-        return true;
-    }
-    kind == QUALIFIED_KIND
+    kind == TYPEDEF_KIND || kind == QUALIFIED_KIND
 }
 
 // The row that a row stands for, typedefs and qualifiers aside.
@@ -39,13 +30,11 @@ pub fn resolve(w: &[u32], n: u32) -> u32
     ensures { WordIs (λ t. resolve t n) w.now result }
 {
     let mut row = n;
-    let mut left = Model::MAX_RESOLVE;
-    while 0 < left {
+    for _ in 0..Model::MAX_RESOLVE {
         if !is_alias(w, row) {
             return row;
         }
         row = row_target(w, row);
-        left = left - 1;
     }
     row
 }
@@ -64,32 +53,26 @@ fn is_named(w: &[u32], i: usize, kind: u32, name: u32) -> bool
     ensures { Says (λ t. eqb (kind_of (row_at t i)) kind && eqb (row_name (row_at t i)) name) w.now result }
 {
     let at = ROW_COLUMNS * i;
-    if w[at + ROW_NAME] != name {
-        return false;
-    }
-    w[at] == kind
+    w[at + ROW_NAME] == name && w[at] == kind
 }
 
 // The first row of a kind and a name, from the one on that the index has. A slice of another length holds no table.
-pub fn row_named(w: &[u32], c: Cursor, kind: u32, name: u32) -> Found
+pub fn row_named(w: &[u32], c: Cursor, kind: u32, name: u32) -> Option<u32>
     requires { Room c }
     ensures { Finds (λ t. row_named kind name 0 t.rows) c w.now result }
 {
     if w.len() != WORDS {
-        return Found::Nothing;
+        return None;
     }
-    let rows = c.rows;
-    let mut i = first_named(w, kind, name);
-    while i < rows {
+    for i in first_named(w, kind, name)..c.rows {
         if is_named(w, i, kind, name) {
-            return Found::At(i as u32);
+            return Some(i as u32);
         }
-        i = i + 1;
     }
-    Found::Nothing
+    None
 }
 
-pub fn typedef_row(w: &[u32], c: Cursor, name: u32) -> Found
+pub fn typedef_row(w: &[u32], c: Cursor, name: u32) -> Option<u32>
     requires { Room c }
     ensures { Finds (λ t. typedef_row t name) c w.now result }
 {
@@ -99,10 +82,7 @@ pub fn typedef_row(w: &[u32], c: Cursor, name: u32) -> Found
 pub fn composite_kind(union: bool) -> u32
     ensures { result ≡ composite_kind union }
 {
-    if union {
-        return UNION_KIND;
-    }
-    STRUCT_KIND
+    if union { UNION_KIND } else { STRUCT_KIND }
 }
 
 // The row of a struct's or union's tag: the one that it has, or a new one without a body.
@@ -113,14 +93,13 @@ pub fn tag_row(
     c: Cursor,
     union: bool,
     name: u32,
-) -> Step
+) -> Answer<u32>
     requires { Held c w.old d.old v.old }
-    ensures { Does (tag_row union name) c w.old d.old v.old (step result) w.new d.new v.new }
+    ensures { Does (tag_row union name) c w.old d.old v.old (reply result) w.new d.new v.new }
 {
     let kind = composite_kind(union);
-    let f = row_named(w, c, kind, name);
-    if let Found::At(n) = f {
-        return Step::Done(c, n);
+    if let Some(n) = row_named(w, c, kind, name) {
+        return Ok((c, n));
     }
     push_row(
         w,
@@ -147,13 +126,12 @@ pub fn enum_tag_row(
     c: Cursor,
     bytes: u64,
     name: u32,
-) -> Step
+) -> Answer<u32>
     requires { Held c w.old d.old v.old }
-    ensures { Does (enum_tag_row bytes name) c w.old d.old v.old (step result) w.new d.new v.new }
+    ensures { Does (enum_tag_row bytes name) c w.old d.old v.old (reply result) w.new d.new v.new }
 {
-    let f = row_named(w, c, ENUM_KIND, name);
-    if let Found::At(n) = f {
-        return Step::Done(c, n);
+    if let Some(n) = row_named(w, c, ENUM_KIND, name) {
+        return Ok((c, n));
     }
     push_row(
         w,

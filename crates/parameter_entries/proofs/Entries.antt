@@ -1,6 +1,6 @@
 -- A test after another, and what callers use: an entry of a list is a piece of its reading. Assumes nothing.
 use mathlib.Core.Path.{◌≡◌, refl}
-use mathlib.Core.Bool.{Bool, true, ◌&&◌}
+use mathlib.Core.Bool.{Bool, true, false, ◌&&◌}
 use Prim.Native.Nat.{ℕ}
 use Rattle.definition.specs.Answer.{Answer, got, refused, ◌>>=◌}
 use Rattle.definition.specs.Table.{State, mark_of, push_parameter}
@@ -11,6 +11,9 @@ use Rattle.parameter_entries.specs.Parameters.{added_parameter}
 
 pub and_on : {a : Bool} (b : Bool) → a ≡ true → (a && b) ≡ b
 and_on b e = rw e
+
+pub and_off : {a : Bool} (b : Bool) → a ≡ false → a ≡ (a && b)
+and_off b e = rw e
 
 -- a call, a call after it, and the rest
 then-both : {A B C : Type 0} (x : Answer A) (f : A → Answer B) (k : B → Answer C) → ◌≡◌ {A = Answer C} (x >>= λ a. f a >>= k) ((x >>= f) >>= k)

@@ -3,54 +3,47 @@
 ghost use Rattle.std.specs.Prelude.{◌≤◌};
 ghost use Rattle.definition.specs.Limit.{max_parameters};
 ghost use Rattle.table.specs.Held.{Held};
-ghost use Rattle.table.specs.Reply.{step, Does};
+ghost use Rattle.table.specs.Reply.{reply, Does};
 ghost use Rattle.parameter_entries.specs.Parameters.{Closes, VoidList, added_parameter};
 
 use derived_types::adjusted;
 use encoding::names::NO_NAME;
-use encoding::refusals::MISSING_MARK;
+use encoding::refusals::{Reason, Refusal};
 use encoding::regions::OPEN_LIST;
 use encoding::token_kinds::CLOSE_PAREN;
-use table::{Cursor, Step, kind_at, push_parameter};
+use table::{Answer, Cursor, kind_at, push_parameter};
 
 // The row of void.
 const VOID_ROW: u32 = 0;
 
-// What follows a declarator's name, as a step, with where to read on; or a refusal.
-#[derive(Clone, Copy)]
-pub enum Suffix {
-    Done(Cursor, declarator_steps::Step),
-    Refused(u32, usize),
-}
-
 // The end of a list of n parameters.
-pub fn parameters_end(kinds: &[u32], c: Cursor, varargs: bool, first: u32, n: u32) -> Suffix
+pub fn parameters_end(
+    kinds: &[u32],
+    c: Cursor,
+    varargs: bool,
+    first: u32,
+    n: u32,
+) -> Answer<declarator_steps::Step>
     ensures { Closes kinds.now varargs first n c result }
 {
     let at = c.at;
     if kind_at(kinds, at) != CLOSE_PAREN {
-        return Suffix::Refused(MISSING_MARK, at);
+        return Err(Refusal {
+            reason: Reason::MissingMark,
+            at,
+        });
     }
-    Suffix::Done(
+    Ok((
         c.moved(at + 1),
         declarator_steps::Step::function(varargs, first, n),
-    )
+    ))
 }
 
 // `( void )` alone is an empty list, and no parameter: it is asked after a parameter was read, the n-th from 0.
 pub fn is_void_list(kinds: &[u32], c: Cursor, n: u32, name: u32, ty: u32) -> bool
     ensures { VoidList kinds.now n name ty c result }
 {
-    if n != 0 {
-        return false;
-    }
-    if name != NO_NAME {
-        return false;
-    }
-    if ty != VOID_ROW {
-        return false;
-    }
-    kind_at(kinds, c.at) == CLOSE_PAREN
+    n == 0 && name == NO_NAME && ty == VOID_ROW && kind_at(kinds, c.at) == CLOSE_PAREN
 }
 
 // A parameter that was read from the token `at` on becomes the next entry of the list whose first is `first`.
@@ -63,14 +56,11 @@ pub fn add_parameter(
     at: usize,
     ty: u32,
     name: u32,
-) -> Step
+) -> Answer<u32>
     requires held { Held c w.old d.old v.old }
     requires first_le_max_parameters { first ≤ max_parameters }
-    ensures { Does (added_parameter first at ty name) c w.old d.old v.old (step result) w.new d.new v.new }
+    ensures { Does (added_parameter first at ty name) c w.old d.old v.old (reply result) w.new d.new v.new }
 {
-    let r = adjusted(w, d, v, c, at, ty);
-    let Step::Done(e, n) = r else {
-        return r;
-    };
+    let (e, n) = adjusted(w, d, v, c, at, ty)?;
     push_parameter(w, d, v, e, OPEN_LIST + first, n, name)
 }

@@ -1,41 +1,30 @@
 -- What the parser's answers mean.
-use Rattle.std.specs.Prelude.{◌≡◌, List, ℕ, ◌≤◌, ◌<◌, ℤ, length}
+use Rattle.std.specs.Prelude.{◌≡◌, List, ℕ, ◌≤◌, ◌<◌, ℤ, length, Result, Ok}
 use Rattle.definition.specs.Answer.{Answer}
 use Rattle.definition.specs.Limit.{max_text}
 use Rattle.definition.specs.Table.{State, Reads}
-use Rattle.definition.specs.Specifier.{Specifiers as MeantSpecifiers}
 use Rattle.definition.specs.Grammar.{Declarator}
 use Rattle.definition.specs.Token.{Tokens}
 use Rattle.definition.specs.Model.{Model}
 use Rattle.definition.specs.Reader.{levels}
-use Rattle.table.specs.Reply.{Reply, ok, bad, Nothing, Does, Moves, Runs}
+use Rattle.encoding.specs.declared.refusals.Refusal.{Refusal}
+use Rattle.table.specs.Reply.{Reply, reply_by, Nothing, Does, Moves, Runs}
 use Rattle.table.specs.declared.Cursor.{Cursor}
-use Rattle.table.specs.declared.Step.{Step}
-use Rattle.table.specs.declared.Step.TheVariants.{Done, Refused}
 use Rattle.naming.specs.Names.{NamesFit}
 use Rattle.declarator_steps.specs.declared.Steps.{Steps}
 use Rattle.declarator_steps.specs.Pending.{pending, Waiting}
-use Rattle.words.specs.Meaning.{specifiers}
-use Rattle.declarator_heads.specs.declared.Declared.{Declared}
 use Rattle.parser.specs.Pieces.{typed_from}
-use Rattle.parser.specs.declared.Specified.{Specified}
-use Rattle.parser.specs.declared.Specified.TheVariants.{Done as Specified-as-Done, Refused as Specified-as-Refused}
+use Rattle.parser.specs.declared.Declared.{Declared}
 use Rattle.parser.specs.declared.Typed.{Typed}
-use Rattle.parser.specs.declared.Typed.TheVariants.{Done as Typed-as-Done, Refused as Typed-as-Refused}
 
 -- Tokens as the lexer gives them: names fit in 32 bits, and there are no more tokens than bytes.
 pub record Readable (kinds numbers : List ℕ) : Type 0 where
   pub names : NamesFit kinds numbers
   pub few : length kinds ≤ max_text
 
-abbrev pub specified : Specified → Reply MeantSpecifiers
-specified (Specified-as-Done c p) = ok c (specifiers p)
-specified (Specified-as-Refused n p) = bad n p
-
 -- a type and a name
-abbrev pub typed : Typed → Reply (ℕ × ℕ)
-typed (Typed-as-Done c type name) = ok c (type, name)
-typed (Typed-as-Refused n p) = bad n p
+abbrev pub typed : Typed → ℕ × ℕ
+typed x = (x.ty, x.name)
 
 -- as they stand in the definition's answer
 abbrev pub both_numbers : ℕ × ℕ → State → ℕ × ℕ × State
@@ -45,9 +34,8 @@ both_numbers x s = (x.0, x.1, s)
 abbrev pub declarator_of : Steps → ℕ → Declarator
 declarator_of s name = record { steps = (pending s).steps; name = name }
 
-abbrev pub declaring : Step → Steps → Reply Declarator
-declaring (Done c name) s = ok c (declarator_of s name)
-declaring (Refused n p) s = bad n p
+abbrev pub declared : Declared → Declarator
+declared x = declarator_of x.steps x.name
 
 -- no steps yet, and stars that may wait
 pub record Starting (s : Steps) : Type 0 where
@@ -55,10 +43,10 @@ pub record Starting (s : Steps) : Type 0 where
   pub waiting : Waiting s s.held
 
 -- The code declares what f says, and the stars that waited before still wait.
-pub record Declares (f : Reads Declarator) (c : Cursor) (s : Steps) (w d : List ℕ) (v : List ℤ) (r : Declared) (w' d' : List ℕ) (v' : List ℤ) : Type 0 where
-  pub does : Does f c w d v (declaring r.answer r.steps) w' d' v'
-  pub stars : (e : Cursor) (name : ℕ) → r.answer ≡ Done e name → (pending r.steps).stars ≡ (pending s).stars
-  pub waits : (e : Cursor) (name : ℕ) → r.answer ≡ Done e name → Waiting r.steps s.held
+pub record Declares (f : Reads Declarator) (c : Cursor) (s : Steps) (w d : List ℕ) (v : List ℤ) (r : Result (Cursor × Declared) Refusal) (w' d' : List ℕ) (v' : List ℤ) : Type 0 where
+  pub does : Does f c w d v (reply_by declared r) w' d' v'
+  pub stars : (e : Cursor) (x : Declared) → r ≡ Ok (e, x) → (pending x.steps).stars ≡ (pending s).stars
+  pub waits : (e : Cursor) (x : Declared) → r ≡ Ok (e, x) → Waiting x.steps s.held
 
 -- The same for a definition that counts rounds: with any number of them above l.
 pub record MovesIn (g : ℕ → State → Answer State) (l : ℕ) (c : Cursor) (w d : List ℕ) (v : List ℤ) (r : Reply Nothing) (w' d' : List ℕ) (v' : List ℤ) : Type 0 where

@@ -10,26 +10,24 @@ ghost use Rattle.definition.specs.Composite.{tagged_composite, untagged_composit
 ghost use Rattle.definition.specs.Reader.{levels};
 ghost use Rattle.constants.specs.Reading.{tokens};
 ghost use Rattle.table.specs.Held.{Held};
-ghost use Rattle.table.specs.Reply.{step, move, Does, Moves, Runs};
+ghost use Rattle.table.specs.Reply.{reply, reply_alone, reply_by, Does, Moves, Runs};
 ghost use Rattle.model.specs.Meaning.{model};
 ghost use Rattle.declarator_steps.specs.Pending.{Waiting};
 ghost use Rattle.member_entries.specs.Ended.{laid};
-ghost use Rattle.parameter_entries.specs.Parameters.{suffix};
 ghost use Rattle.declarator_heads.specs.Heads.{is_plain_pointer};
-ghost use Rattle.parser.specs.Answers.{Readable, specified, typed, both_numbers, Starting, declarator_of, Declares, MovesIn, Types};
+ghost use Rattle.words.specs.Meaning.{specifiers as said};
+ghost use Rattle.declarator_steps.specs.Pending.{step_of};
+ghost use Rattle.parser.specs.Answers.{Readable, typed, both_numbers, Starting, declarator_of, Declares, MovesIn, Types};
 ghost use Rattle.parser.specs.Pieces.{type_row, after_type, declarators_in, suffix_step, typed_from};
 
 use base_types::{base_type, named_type};
 use body_rows::{add_body, define_body};
-use bounds_widths::{Bound, array_bound};
-use declarator_heads::{Declared, is_plain, is_plain_pointer, opens_declarator, stars};
-use declarator_steps::Steps;
+use bounds_widths::array_bound;
+use declarator_heads::{is_plain, is_plain_pointer, opens_declarator, stars};
+use declarator_steps::{Step, Steps};
 use derived_types::{apply, apply_pointer};
 use encoding::names::NO_NAME;
-use encoding::refusals::{
-    BAD_TYPE_WORDS, LAYOUT_ATTRIBUTE, LIMIT_PASSED, MEMBER_STORAGE, MISSING_MARK, MISSING_NAME,
-    TOO_DEEP,
-};
+use encoding::refusals::{Reason, Refusal};
 use encoding::storage::Storage;
 use encoding::token_kinds::{
     ATTRIBUTE, CLOSE_BRACE, CLOSE_PAREN, COLON, COMMA, ELLIPSIS, END, ENUM_WORD, OPEN_BRACE,
@@ -37,31 +35,32 @@ use encoding::token_kinds::{
 };
 use enumeration::enumeration;
 use fields::anonymous_member;
-use member_entries::{Laid, close_body, field};
+use member_entries::{Body, close_body, field};
 use model::Model;
 use named_rows::tag_row;
 use naming::name_at;
-use parameter_entries::{Suffix, add_parameter, is_void_list, parameters_end};
+use parameter_entries::{add_parameter, is_void_list, parameters_end};
 use skipping::qualifiers_here;
 use specifier_words::{has_base, says_no_type, with_word};
-use table::{Cursor, Move, Step, kind_at};
+use table::{Answer, Cursor, kind_at};
 use words::classes::{is_name, is_tag_word, is_type_word, is_word};
 use words::specifiers::Specifiers;
 
 // The levels that a name takes: a declarator's, and that of what its stars stand before.
 const NAME_LEVELS: u32 = 2;
 
-// Specifiers, or a type with a name, each with where to read on; or a refusal.
+// The name that a declarator declares, 0 for none, and its steps.
 #[derive(Clone, Copy)]
-pub enum Specified {
-    Done(Cursor, Specifiers),
-    Refused(u32, usize),
+struct Declared {
+    name: u32,
+    steps: Steps,
 }
 
+// A declared type and its name, 0 for none.
 #[derive(Clone, Copy)]
-pub enum Typed {
-    Done(Cursor, u32, u32),
-    Refused(u32, usize),
+pub struct Typed {
+    pub ty: u32,
+    pub name: u32,
 }
 
 // ---- specifiers
@@ -78,10 +77,10 @@ fn tag_type(
     m: Model,
     kind: u32,
     room: u32,
-) -> Step
+) -> Answer<u32>
     requires held { Held c w.old d.old v.old }
     requires readable { Readable kinds.now numbers.now }
-    ensures { Does (tagged_type (tokens kinds.now numbers.now) (model m) (levels (tokens kinds.now numbers.now) (model m) room) kind) c w.old d.old v.old (step result) w.new d.new v.new }
+    ensures { Does (tagged_type (tokens kinds.now numbers.now) (model m) (levels (tokens kinds.now numbers.now) (model m) room) kind) c w.old d.old v.old (reply result) w.new d.new v.new }
 {
     if kind == ENUM_WORD {
         return enumeration(kinds, numbers, w, d, v, c, m, room);
@@ -100,22 +99,19 @@ fn type_row(
     c: Cursor,
     m: Model,
     room: u32,
-) -> Step
+) -> Answer<u32>
     requires held { Held c w.old d.old v.old }
     requires readable { Readable kinds.now numbers.now }
     requires at_in_bounds { c.at < length kinds.now }
-    ensures { Does (type_row (tokens kinds.now numbers.now) (model m) (levels (tokens kinds.now numbers.now) (model m) room)) c w.old d.old v.old (step result) w.new d.new v.new }
+    ensures { Does (type_row (tokens kinds.now numbers.now) (model m) (levels (tokens kinds.now numbers.now) (model m) room)) c w.old d.old v.old (reply result) w.new d.new v.new }
 {
     let at = c.at;
     let kind = kind_at(kinds, at);
     if is_tag_word(kind) {
         return tag_type(kinds, numbers, w, d, v, c.moved(at + 1), m, kind, room);
     }
-    let r = named_type(kinds, numbers, w, d, v, c, m);
-    let Step::Done(e, n) = r else {
-        return r;
-    };
-    Step::Done(e.moved(at + 1), n)
+    let (e, n) = named_type(kinds, numbers, w, d, v, c, m)?;
+    Ok((e.moved(at + 1), n))
 }
 
 // Words are read on until one is no specifier.
@@ -129,10 +125,10 @@ pub fn specifiers(
     c: Cursor,
     m: Model,
     room: u32,
-) -> Specified
+) -> Answer<Specifiers>
     requires held { Held c w.old d.old v.old }
     requires readable { Readable kinds.now numbers.now }
-    ensures { Does (specifiers (tokens kinds.now numbers.now) (model m) (levels (tokens kinds.now numbers.now) (model m) room)) c w.old d.old v.old (specified result) w.new d.new v.new }
+    ensures { Does (specifiers (tokens kinds.now numbers.now) (model m) (levels (tokens kinds.now numbers.now) (model m) room)) c w.old d.old v.old (reply_by said result) w.new d.new v.new }
 {
     let mut p = Specifiers::none();
     let mut here = c;
@@ -141,34 +137,38 @@ pub fn specifiers(
         let kind = kind_at(kinds, at);
         if !is_word(kind) {
             if kind == ATTRIBUTE {
-                return Specified::Refused(LAYOUT_ATTRIBUTE, at);
+                return Err(Refusal {
+                    reason: Reason::LayoutAttribute,
+                    at,
+                });
             }
-            return Specified::Done(here, p);
+            return Ok((here, p));
         }
         if says_no_type(kind) {
             p = with_word(p, kind);
             here = here.moved(at + 1);
         } else if is_type_word(kind) {
             if has_base(p) {
-                return Specified::Refused(BAD_TYPE_WORDS, at);
+                return Err(Refusal {
+                    reason: Reason::BadTypeWords,
+                    at,
+                });
             }
             p = p.wording(kind);
             here = here.moved(at + 1);
         } else {
             if p.names_type() {
                 if is_tag_word(kind) {
-                    return Specified::Refused(BAD_TYPE_WORDS, at);
+                    return Err(Refusal {
+                        reason: Reason::BadTypeWords,
+                        at,
+                    });
                 }
-                return Specified::Done(here, p);
+                return Ok((here, p));
             }
-            let r = type_row(kinds, numbers, w, d, v, here, m, room);
-            match r {
-                Step::Done(e, n) => {
-                    p = p.based_on(n);
-                    here = e;
-                }
-                Step::Refused(n, q) => return Specified::Refused(n, q),
-            }
+            let (e, n) = type_row(kinds, numbers, w, d, v, here, m, room)?;
+            p = p.based_on(n);
+            here = e;
         }
     }
 }
@@ -187,14 +187,17 @@ pub fn composite(
     m: Model,
     union: bool,
     room: u32,
-) -> Step
+) -> Answer<u32>
     requires held { Held c w.old d.old v.old }
     requires readable { Readable kinds.now numbers.now }
-    ensures { Does ((levels (tokens kinds.now numbers.now) (model m) room).composite union) c w.old d.old v.old (step result) w.new d.new v.new }
+    ensures { Does ((levels (tokens kinds.now numbers.now) (model m) room).composite union) c w.old d.old v.old (reply result) w.new d.new v.new }
 {
     let at = c.at;
     if room == 0 {
-        return Step::Refused(TOO_DEEP, at);
+        return Err(Refusal {
+            reason: Reason::TooDeep,
+            at,
+        });
     }
     if !is_name(kind_at(kinds, at)) {
         return without_tag(kinds, numbers, w, d, v, c, m, union, room - 1);
@@ -229,27 +232,19 @@ fn with_tag(
     name: u32,
     at: usize,
     room: u32,
-) -> Step
+) -> Answer<u32>
     requires held { Held c w.old d.old v.old }
     requires readable { Readable kinds.now numbers.now }
-    ensures { Does (tagged_composite (tokens kinds.now numbers.now) (model m) (levels (tokens kinds.now numbers.now) (model m) room) union name at) c w.old d.old v.old (step result) w.new d.new v.new }
+    ensures { Does (tagged_composite (tokens kinds.now numbers.now) (model m) (levels (tokens kinds.now numbers.now) (model m) room) union name at) c w.old d.old v.old (reply result) w.new d.new v.new }
 {
-    let r = tag_row(w, d, v, c, union, name);
-    let Step::Done(e, n) = r else {
-        return r;
-    };
+    let (e, n) = tag_row(w, d, v, c, union, name)?;
     let i = e.at;
     if kind_at(kinds, i) != OPEN_BRACE {
-        return r;
+        return Ok((e, n));
     }
-    let b = body(kinds, numbers, w, d, v, e.moved(i + 1), m, union, at, room);
-    match b {
-        Laid::Body(f, size, first, count) => {
-            define_body(w, d, v, f, union, name, n, size, first, count);
-            Step::Done(f, n)
-        }
-        Laid::Refused(k, p) => Step::Refused(k, p),
-    }
+    let (f, b) = body(kinds, numbers, w, d, v, e.moved(i + 1), m, union, at, room)?;
+    define_body(w, d, v, f, union, name, n, b.size, b.first, b.count);
+    Ok((f, n))
 }
 
 // A body without a tag.
@@ -264,20 +259,20 @@ fn without_tag(
     m: Model,
     union: bool,
     room: u32,
-) -> Step
+) -> Answer<u32>
     requires held { Held c w.old d.old v.old }
     requires readable { Readable kinds.now numbers.now }
-    ensures { Does (untagged_composite (tokens kinds.now numbers.now) (model m) (levels (tokens kinds.now numbers.now) (model m) room) union c.at) c w.old d.old v.old (step result) w.new d.new v.new }
+    ensures { Does (untagged_composite (tokens kinds.now numbers.now) (model m) (levels (tokens kinds.now numbers.now) (model m) room) union c.at) c w.old d.old v.old (reply result) w.new d.new v.new }
 {
     let at = c.at;
     if kind_at(kinds, at) != OPEN_BRACE {
-        return Step::Refused(MISSING_NAME, at);
+        return Err(Refusal {
+            reason: Reason::MissingName,
+            at,
+        });
     }
-    let b = body(kinds, numbers, w, d, v, c.moved(at + 1), m, union, at, room);
-    match b {
-        Laid::Body(f, size, first, count) => add_body(w, d, v, f, union, size, first, count),
-        Laid::Refused(k, p) => Step::Refused(k, p),
-    }
+    let (f, b) = body(kinds, numbers, w, d, v, c.moved(at + 1), m, union, at, room)?;
+    add_body(w, d, v, f, union, b.size, b.first, b.count)
 }
 
 // A body after its brace, laid out; `at` is its tag's place.
@@ -293,17 +288,14 @@ fn body(
     union: bool,
     at: usize,
     room: u32,
-) -> Laid
+) -> Answer<Body>
     requires held { Held c w.old d.old v.old }
     requires readable { Readable kinds.now numbers.now }
-    ensures { Does (body (tokens kinds.now numbers.now) (model m) (levels (tokens kinds.now numbers.now) (model m) room) union at) c w.old d.old v.old (laid result) w.new d.new v.new }
+    ensures { Does (body (tokens kinds.now numbers.now) (model m) (levels (tokens kinds.now numbers.now) (model m) room) union at) c w.old d.old v.old (reply_by laid result) w.new d.new v.new }
 {
     let first = c.members as u32;
-    let r = member_list(kinds, numbers, w, d, v, c, m, first, room);
-    match r {
-        Move::To(e) => close_body(w, d, e, m, union, first, at),
-        Move::Refused(k, p) => Laid::Refused(k, p),
-    }
+    let e = member_list(kinds, numbers, w, d, v, c, m, first, room)?;
+    close_body(w, d, e, m, union, first, at)
 }
 
 // Members up to the closing brace.
@@ -318,29 +310,29 @@ fn member_list(
     m: Model,
     first: u32,
     room: u32,
-) -> Move
+) -> Result<Cursor, Refusal>
     requires held { Held c w.old d.old v.old }
     requires readable { Readable kinds.now numbers.now }
     requires first_le_max_members { first ≤ max_members }
-    ensures { Moves (members_from (tokens kinds.now numbers.now) (model m) (levels (tokens kinds.now numbers.now) (model m) room) (suc (left (tokens kinds.now numbers.now) c.at)) first) c w.old d.old v.old (move result) w.new d.new v.new }
+    ensures { Moves (members_from (tokens kinds.now numbers.now) (model m) (levels (tokens kinds.now numbers.now) (model m) room) (suc (left (tokens kinds.now numbers.now) c.at)) first) c w.old d.old v.old (reply_alone result) w.new d.new v.new }
 {
     let mut here = c;
     loop {
         let at = here.at;
         let kind = kind_at(kinds, at);
         if kind == CLOSE_BRACE {
-            return Move::To(here.moved(at + 1));
+            return Ok(here.moved(at + 1));
         }
         if kind == END {
-            return Move::Refused(MISSING_MARK, at);
+            return Err(Refusal {
+                reason: Reason::MissingMark,
+                at,
+            });
         }
         if kind == SEMICOLON {
             here = here.moved(at + 1);
         } else {
-            let r = member(kinds, numbers, w, d, v, here, m, first, room);
-            let Move::To(e) = r else {
-                return r;
-            };
+            let e = member(kinds, numbers, w, d, v, here, m, first, room)?;
             here = e;
         }
     }
@@ -358,27 +350,22 @@ fn member(
     m: Model,
     first: u32,
     room: u32,
-) -> Move
+) -> Result<Cursor, Refusal>
     requires held { Held c w.old d.old v.old }
     requires readable { Readable kinds.now numbers.now }
     requires first_le_max_members { first ≤ max_members }
-    ensures { Moves (member_declaration (tokens kinds.now numbers.now) (model m) (levels (tokens kinds.now numbers.now) (model m) room) first) c w.old d.old v.old (move result) w.new d.new v.new }
+    ensures { Moves (member_declaration (tokens kinds.now numbers.now) (model m) (levels (tokens kinds.now numbers.now) (model m) room) first) c w.old d.old v.old (reply_alone result) w.new d.new v.new }
 {
     let at = c.at;
-    let s = specifiers(kinds, numbers, w, d, v, c, m, room);
-    match s {
-        Specified::Done(e, p) => {
-            if p.storage != Storage::NoStorage {
-                return Move::Refused(MEMBER_STORAGE, at);
-            }
-            let r = base_type(w, d, v, e, m, p, at);
-            match r {
-                Step::Done(f, b) => after_type(kinds, numbers, w, d, v, f, m, first, b, at, room),
-                Step::Refused(k, q) => Move::Refused(k, q),
-            }
-        }
-        Specified::Refused(k, q) => Move::Refused(k, q),
+    let (e, p) = specifiers(kinds, numbers, w, d, v, c, m, room)?;
+    if p.storage != Storage::NoStorage {
+        return Err(Refusal {
+            reason: Reason::MemberStorage,
+            at,
+        });
     }
+    let (f, b) = base_type(w, d, v, e, m, p, at)?;
+    after_type(kinds, numbers, w, d, v, f, m, first, b, at, room)
 }
 
 // What follows the type of a member declaration that began at `at`.
@@ -395,11 +382,11 @@ fn after_type(
     b: u32,
     at: usize,
     room: u32,
-) -> Move
+) -> Result<Cursor, Refusal>
     requires held { Held c w.old d.old v.old }
     requires readable { Readable kinds.now numbers.now }
     requires first_le_max_members { first ≤ max_members }
-    ensures { MovesIn (after_type (tokens kinds.now numbers.now) (model m) (levels (tokens kinds.now numbers.now) (model m) room) first b at) (left (tokens kinds.now numbers.now) c.at) c w.old d.old v.old (move result) w.new d.new v.new }
+    ensures { MovesIn (after_type (tokens kinds.now numbers.now) (model m) (levels (tokens kinds.now numbers.now) (model m) room) first b at) (left (tokens kinds.now numbers.now) c.at) c w.old d.old v.old (reply_alone result) w.new d.new v.new }
 {
     let i = c.at;
     if kind_at(kinds, i) == SEMICOLON {
@@ -421,25 +408,25 @@ fn declarators(
     first: u32,
     b: u32,
     room: u32,
-) -> Move
+) -> Result<Cursor, Refusal>
     requires held { Held c w.old d.old v.old }
     requires readable { Readable kinds.now numbers.now }
     requires first_le_max_members { first ≤ max_members }
-    ensures { MovesIn (declarators_in (tokens kinds.now numbers.now) (model m) (levels (tokens kinds.now numbers.now) (model m) room) first b) (left (tokens kinds.now numbers.now) c.at) c w.old d.old v.old (move result) w.new d.new v.new }
+    ensures { MovesIn (declarators_in (tokens kinds.now numbers.now) (model m) (levels (tokens kinds.now numbers.now) (model m) room) first b) (left (tokens kinds.now numbers.now) c.at) c w.old d.old v.old (reply_alone result) w.new d.new v.new }
 {
     let mut here = c;
     loop {
-        let r = one_member(kinds, numbers, w, d, v, here, m, first, b, room);
-        let Move::To(e) = r else {
-            return r;
-        };
+        let e = one_member(kinds, numbers, w, d, v, here, m, first, b, room)?;
         let at = e.at;
         let kind = kind_at(kinds, at);
         if kind != COMMA {
             if kind != SEMICOLON {
-                return Move::Refused(MISSING_MARK, at);
+                return Err(Refusal {
+                    reason: Reason::MissingMark,
+                    at,
+                });
             }
-            return Move::To(e.moved(at + 1));
+            return Ok(e.moved(at + 1));
         }
         here = e.moved(at + 1);
     }
@@ -458,11 +445,11 @@ fn one_member(
     first: u32,
     b: u32,
     room: u32,
-) -> Move
+) -> Result<Cursor, Refusal>
     requires held { Held c w.old d.old v.old }
     requires readable { Readable kinds.now numbers.now }
     requires first_le_max_members { first ≤ max_members }
-    ensures { Moves (member_declarator (tokens kinds.now numbers.now) (model m) (levels (tokens kinds.now numbers.now) (model m) room) first b) c w.old d.old v.old (move result) w.new d.new v.new }
+    ensures { Moves (member_declarator (tokens kinds.now numbers.now) (model m) (levels (tokens kinds.now numbers.now) (model m) room) first b) c w.old d.old v.old (reply_alone result) w.new d.new v.new }
 {
     let at = c.at;
     if kind_at(kinds, at) == COLON {
@@ -470,13 +457,10 @@ fn one_member(
             kinds, numbers, w, d, v, c, first, b, NO_NAME, true, at, room,
         );
     }
-    let t = declared_type(kinds, numbers, w, d, v, c, m, b, room);
-    match t {
-        Typed::Done(e, ty, name) => {
-            field(kinds, numbers, w, d, v, e, first, ty, name, false, at, room)
-        }
-        Typed::Refused(k, p) => Move::Refused(k, p),
-    }
+    let (e, t) = declared_type(kinds, numbers, w, d, v, c, m, b, room)?;
+    field(
+        kinds, numbers, w, d, v, e, first, t.ty, t.name, false, at, room,
+    )
 }
 
 // ---- declarators
@@ -493,33 +477,30 @@ fn declarator(
     m: Model,
     s: Steps,
     room: u32,
-) -> Declared
+) -> Answer<Declared>
     requires held { Held c w.old d.old v.old }
     requires readable { Readable kinds.now numbers.now }
     requires starting { Starting s }
     ensures { Declares ((levels (tokens kinds.now numbers.now) (model m) room).declarator s.held) c s w.old d.old v.old result w.new d.new v.new }
 {
     if room == 0 {
-        return Declared::new(Step::Refused(TOO_DEEP, c.at), s);
+        return Err(Refusal {
+            reason: Reason::TooDeep,
+            at: c.at,
+        });
     }
     let used = s.held;
     let t = stars(kinds, c, s);
-    let read = t.answer;
+    let e = t.answer?;
     let held = t.steps;
-    let Step::Done(e, _) = read else {
-        return t;
-    };
     let all = held.held;
-    let r = direct(kinds, numbers, w, d, v, e, m, held, room - 1);
+    let (f, x) = direct(kinds, numbers, w, d, v, e, m, held, room - 1)?;
     if all == used {
-        return r;
+        return Ok((f, x));
     }
-    let answer = r.answer;
-    let pending = r.steps;
-    let Step::Done(_, _) = answer else {
-        return r;
-    };
-    Declared::new(answer, pending.release_stars(all - used))
+    let name = x.name;
+    let steps = x.steps.release_stars(all - used);
+    Ok((f, Declared { name, steps }))
 }
 
 // A name, a declarator in parentheses, or nothing; then what follows it.
@@ -534,7 +515,7 @@ fn direct(
     m: Model,
     s: Steps,
     room: u32,
-) -> Declared
+) -> Answer<Declared>
     requires held { Held c w.old d.old v.old }
     requires readable { Readable kinds.now numbers.now }
     requires starting { Starting s }
@@ -542,7 +523,10 @@ fn direct(
 {
     let at = c.at;
     if room == 0 {
-        return Declared::new(Step::Refused(TOO_DEEP, at), s);
+        return Err(Refusal {
+            reason: Reason::TooDeep,
+            at,
+        });
     }
     let inner = room - 1;
     if is_name(kind_at(kinds, at)) {
@@ -552,15 +536,13 @@ fn direct(
     if !opens_declarator(kinds, numbers, w, c, m) {
         return suffixes(kinds, numbers, w, d, v, c, m, s, NO_NAME, inner);
     }
-    let r = declarator(kinds, numbers, w, d, v, c.moved(at + 1), m, s, inner);
-    let answer = r.answer;
-    let pending = r.steps;
-    let Step::Done(e, name) = answer else {
-        return r;
-    };
+    let (e, x) = declarator(kinds, numbers, w, d, v, c.moved(at + 1), m, s, inner)?;
     let i = e.at;
     if kind_at(kinds, i) != CLOSE_PAREN {
-        return Declared::new(Step::Refused(MISSING_MARK, i), pending);
+        return Err(Refusal {
+            reason: Reason::MissingMark,
+            at: i,
+        });
     }
     suffixes(
         kinds,
@@ -570,8 +552,8 @@ fn direct(
         v,
         e.moved(i + 1),
         m,
-        pending,
-        name,
+        x.steps,
+        x.name,
         inner,
     )
 }
@@ -589,7 +571,7 @@ fn suffixes(
     s: Steps,
     name: u32,
     room: u32,
-) -> Declared
+) -> Answer<Declared>
     requires held { Held c w.old d.old v.old }
     requires readable { Readable kinds.now numbers.now }
     requires waiting { Waiting s s.held }
@@ -600,22 +582,18 @@ fn suffixes(
     loop {
         let at = here.at;
         let kind = kind_at(kinds, at);
-        if kind != OPEN_BRACKET {
-            if kind != OPEN_PAREN {
-                return Declared::new(Step::Done(here, name), t);
-            }
+        if kind != OPEN_BRACKET && kind != OPEN_PAREN {
+            return Ok((here, Declared { name, steps: t }));
         }
         if t.is_full() {
-            return Declared::new(Step::Refused(LIMIT_PASSED, at + 1), t);
+            return Err(Refusal {
+                reason: Reason::LimitPassed,
+                at: at + 1,
+            });
         }
-        let r = suffix(kinds, numbers, w, d, v, here.moved(at + 1), m, kind, room);
-        match r {
-            Suffix::Done(e, x) => {
-                t = t.push(x);
-                here = e;
-            }
-            Suffix::Refused(k, p) => return Declared::new(Step::Refused(k, p), t),
-        }
+        let (e, x) = suffix(kinds, numbers, w, d, v, here.moved(at + 1), m, kind, room)?;
+        t = t.push(x);
+        here = e;
     }
 }
 
@@ -631,19 +609,18 @@ fn suffix(
     m: Model,
     kind: u32,
     room: u32,
-) -> Suffix
+) -> Answer<declarator_steps::Step>
     requires held { Held c w.old d.old v.old }
     requires readable { Readable kinds.now numbers.now }
-    ensures { Does (suffix_step (tokens kinds.now numbers.now) (model m) (levels (tokens kinds.now numbers.now) (model m) room) kind) c w.old d.old v.old (suffix result) w.new d.new v.new }
+    ensures { Does (suffix_step (tokens kinds.now numbers.now) (model m) (levels (tokens kinds.now numbers.now) (model m) room) kind) c w.old d.old v.old (reply_by step_of result) w.new d.new v.new }
 {
     if kind == OPEN_PAREN {
         return parameters(kinds, numbers, w, d, v, c, m, room);
     }
-    let b = array_bound(kinds, numbers, w, v, c, room);
+    let (e, b) = array_bound(kinds, numbers, w, v, c, room)?;
     match b {
-        Bound::Of(e, n) => Suffix::Done(e, declarator_steps::Step::bounded(n)),
-        Bound::Open(e) => Suffix::Done(e, declarator_steps::Step::unbounded()),
-        Bound::Refused(k, p) => Suffix::Refused(k, p),
+        Some(n) => Ok((e, Step::bounded(n))),
+        None => Ok((e, Step::unbounded())),
     }
 }
 
@@ -660,10 +637,10 @@ fn parameters(
     c: Cursor,
     m: Model,
     room: u32,
-) -> Suffix
+) -> Answer<declarator_steps::Step>
     requires held { Held c w.old d.old v.old }
     requires readable { Readable kinds.now numbers.now }
-    ensures { Does (parameters (tokens kinds.now numbers.now) (model m) (levels (tokens kinds.now numbers.now) (model m) room)) c w.old d.old v.old (suffix result) w.new d.new v.new }
+    ensures { Does (parameters (tokens kinds.now numbers.now) (model m) (levels (tokens kinds.now numbers.now) (model m) room)) c w.old d.old v.old (reply_by step_of result) w.new d.new v.new }
 {
     let first = c.parameters as u32;
     if kind_at(kinds, c.at) == CLOSE_PAREN {
@@ -683,23 +660,15 @@ fn parameter(
     c: Cursor,
     m: Model,
     room: u32,
-) -> Typed
+) -> Answer<Typed>
     requires held { Held c w.old d.old v.old }
     requires readable { Readable kinds.now numbers.now }
-    ensures { Runs both_numbers (parameter (tokens kinds.now numbers.now) (model m) (levels (tokens kinds.now numbers.now) (model m) room)) c w.old d.old v.old (typed result) w.new d.new v.new }
+    ensures { Runs both_numbers (parameter (tokens kinds.now numbers.now) (model m) (levels (tokens kinds.now numbers.now) (model m) room)) c w.old d.old v.old (reply_by typed result) w.new d.new v.new }
 {
     let at = c.at;
-    let s = specifiers(kinds, numbers, w, d, v, c, m, room);
-    match s {
-        Specified::Done(e, p) => {
-            let r = base_type(w, d, v, e, m, p, at);
-            match r {
-                Step::Done(f, b) => declared_type(kinds, numbers, w, d, v, f, m, b, room),
-                Step::Refused(k, q) => Typed::Refused(k, q),
-            }
-        }
-        Specified::Refused(k, q) => Typed::Refused(k, q),
-    }
+    let (e, p) = specifiers(kinds, numbers, w, d, v, c, m, room)?;
+    let (f, b) = base_type(w, d, v, e, m, p, at)?;
+    declared_type(kinds, numbers, w, d, v, f, m, b, room)
 }
 
 // A name alone with one star before it: a pointer to the base type.
@@ -711,19 +680,17 @@ fn pointer_type(
     v: &mut [i64],
     c: Cursor,
     b: u32,
-) -> Typed
+) -> Answer<Typed>
     requires held { Held c w.old d.old v.old }
     requires readable { Readable kinds.now numbers.now }
     requires at_value { is_plain_pointer kinds.now c.at ≡ true }
-    ensures { Types (tokens kinds.now numbers.now) b c w.old d.old v.old (typed result) w.new d.new v.new }
+    ensures { Types (tokens kinds.now numbers.now) b c w.old d.old v.old (reply_by typed result) w.new d.new v.new }
 {
     let star = c.at;
     let (q, at) = qualifiers_here(kinds, star + 1);
-    let r = apply_pointer(w, d, v, c.moved(at + 1), q, b);
-    match r {
-        Step::Done(e, n) => Typed::Done(e, n, name_at(numbers, at)),
-        Step::Refused(k, p) => Typed::Refused(k, p),
-    }
+    let (e, ty) = apply_pointer(w, d, v, c.moved(at + 1), q, b)?;
+    let name = name_at(numbers, at);
+    Ok((e, Typed { ty, name }))
 }
 
 // A declarator of a base type: what it makes of the type, and its name. The two most frequent ones need no steps.
@@ -738,31 +705,23 @@ pub fn declared_type(
     m: Model,
     b: u32,
     room: u32,
-) -> Typed
+) -> Answer<Typed>
     requires held { Held c w.old d.old v.old }
     requires readable { Readable kinds.now numbers.now }
-    ensures { Runs both_numbers (typed_from (levels (tokens kinds.now numbers.now) (model m) room) b) c w.old d.old v.old (typed result) w.new d.new v.new }
+    ensures { Runs both_numbers (typed_from (levels (tokens kinds.now numbers.now) (model m) room) b) c w.old d.old v.old (reply_by typed result) w.new d.new v.new }
 {
     let at = c.at;
-    if is_plain(kinds, at) & (NAME_LEVELS <= room) {
-        return Typed::Done(c.moved(at + 1), b, name_at(numbers, at));
+    if is_plain(kinds, at) && NAME_LEVELS <= room {
+        let name = name_at(numbers, at);
+        return Ok((c.moved(at + 1), Typed { ty: b, name }));
     }
-    if is_plain_pointer(kinds, at) & (NAME_LEVELS <= room) {
+    if is_plain_pointer(kinds, at) && NAME_LEVELS <= room {
         return pointer_type(kinds, numbers, w, d, v, c, b);
     }
-    let t = declarator(kinds, numbers, w, d, v, c, m, Steps::empty(), room);
-    let answer = t.answer;
-    let pending = t.steps;
-    match answer {
-        Step::Done(e, name) => {
-            let r = apply(w, d, v, e, pending, b);
-            match r {
-                Step::Done(f, ty) => Typed::Done(f, ty, name),
-                Step::Refused(k, p) => Typed::Refused(k, p),
-            }
-        }
-        Step::Refused(k, p) => Typed::Refused(k, p),
-    }
+    let (e, x) = declarator(kinds, numbers, w, d, v, c, m, Steps::empty(), room)?;
+    let name = x.name;
+    let (f, ty) = apply(w, d, v, e, x.steps, b)?;
+    Ok((f, Typed { ty, name }))
 }
 
 // Parameters up to the closing parenthesis.
@@ -777,11 +736,11 @@ fn list(
     m: Model,
     first: u32,
     room: u32,
-) -> Suffix
+) -> Answer<declarator_steps::Step>
     requires held { Held c w.old d.old v.old }
     requires readable { Readable kinds.now numbers.now }
     requires first_le_max_parameters { first ≤ max_parameters }
-    ensures { Does (parameters_from (tokens kinds.now numbers.now) (model m) (levels (tokens kinds.now numbers.now) (model m) room) (suc (left (tokens kinds.now numbers.now) c.at)) first 0) c w.old d.old v.old (suffix result) w.new d.new v.new }
+    ensures { Does (parameters_from (tokens kinds.now numbers.now) (model m) (levels (tokens kinds.now numbers.now) (model m) room) (suc (left (tokens kinds.now numbers.now) c.at)) first 0) c w.old d.old v.old (reply_by step_of result) w.new d.new v.new }
 {
     let mut here = c;
     let mut n = 0;
@@ -790,26 +749,16 @@ fn list(
         if kind_at(kinds, at) == ELLIPSIS {
             return parameters_end(kinds, here.moved(at + 1), true, first, n);
         }
-        let p = parameter(kinds, numbers, w, d, v, here, m, room);
-        match p {
-            Typed::Refused(k, q) => return Suffix::Refused(k, q),
-            Typed::Done(e, ty, name) => {
-                if is_void_list(kinds, e, n, name, ty) {
-                    return parameters_end(kinds, e, false, first, n);
-                }
-                let r = add_parameter(w, d, v, e, first, at, ty, name);
-                match r {
-                    Step::Refused(k, q) => return Suffix::Refused(k, q),
-                    Step::Done(f, _) => {
-                        n = n + 1;
-                        let i = f.at;
-                        if kind_at(kinds, i) != COMMA {
-                            return parameters_end(kinds, f, false, first, n);
-                        }
-                        here = f.moved(i + 1);
-                    }
-                }
-            }
+        let (e, t) = parameter(kinds, numbers, w, d, v, here, m, room)?;
+        if is_void_list(kinds, e, n, t.name, t.ty) {
+            return parameters_end(kinds, e, false, first, n);
         }
+        let (f, _) = add_parameter(w, d, v, e, first, at, t.ty, t.name)?;
+        n += 1;
+        let i = f.at;
+        if kind_at(kinds, i) != COMMA {
+            return parameters_end(kinds, f, false, first, n);
+        }
+        here = f.moved(i + 1);
     }
 }

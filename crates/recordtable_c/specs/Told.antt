@@ -3,8 +3,7 @@ use Rattle.std.specs.Prelude.{List, [], ◌∷◌, ℕ, length}
 use Rattle.definition.specs.Text.{Bytes}
 use Rattle.definition.specs.Entry.{Entry, Outcome, accepted, rejected, outcome}
 use Rattle.definition.specs.Lent.{Lent, long_enough}
-use Rattle.entry_points.specs.declared.Outcome as code
-use Rattle.entry_points.specs.declared.Outcome.TheVariants.{Accepted, Rejected}
+use Rattle.entry_points.specs.Answers.{Told, Accepted, Rejected}
 
 -- what is read of a text under a model's number, in slices of some lengths
 abbrev pub outcome_in : Lent → ℕ → Entry → Bytes → Outcome
@@ -27,11 +26,11 @@ numbers_of (accepted a) = length a.table.rows
 numbers_of (rejected n at line column) = at ∷ line ∷ column ∷ 0 ∷ 0 ∷ 0 ∷ []
 
 -- the same of the code's answer
-unfoldable pub number_told : code.Outcome → ℕ
+unfoldable pub number_told : Told → ℕ
 number_told (Accepted c) = 0
 number_told (Rejected n at line column) = n
 
-unfoldable pub numbers_told : code.Outcome → List ℕ
+unfoldable pub numbers_told : Told → List ℕ
 numbers_told (Accepted c) = c.rows ∷ c.members ∷ c.values ∷ c.parameters ∷ c.declarations ∷ c.names ∷ []
 numbers_told (Rejected n at line column) = at ∷ line ∷ column ∷ 0 ∷ 0 ∷ 0 ∷ []
 

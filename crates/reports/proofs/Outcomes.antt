@@ -14,10 +14,8 @@ use Rattle.model.specs.Meaning.{model, model_found}
 use Rattle.model.specs.declared.Model.{Model}
 use Rattle.clearing.specs.Slices.{lent}
 use Rattle.printing.specs.Written.{Wrote}
-use Rattle.entry_points.specs.Answers.{out, shown, answered}
+use Rattle.entry_points.specs.Answers.{out, shown, answered, Told, Accepted, Rejected}
 use Rattle.entry_points.specs.declared.Counts.{Counts}
-use Rattle.entry_points.specs.declared.Outcome.{Outcome}
-use Rattle.entry_points.specs.declared.Outcome.TheVariants.{Accepted, Rejected}
 use Rattle.entry_points.proofs.Derived.{Accepts, accepts, rejects}
 use Rattle.reports.specs.Printed.{Table, Lists, Answered, Prints}
 
@@ -40,11 +38,11 @@ module _ (number : ℕ) (text : Bytes) (w d : List ℕ) (v : List ℤ) where
   }
 
   -- an accepted text left a table
-  pub table_of : (c : Counts) (r : Outcome) → r ≡ Accepted c → Answered number text r w d v → Table c w d v
+  pub table_of : (c : Counts) (r : Told) → r ≡ Accepted c → Answered number text r w d v → Table c w d v
   table_of c r q x = table-left c x.of x.entry (accepts x.of number x.entry text w d v c (rw (sym q) x.is))
 
   module _ {b b' : Bytes} {n n' : ℕ} where
-    pub accepted-printed : (c : Counts) (r : Outcome) (m : MeantModel) → r ≡ Accepted c → m ≡ or_lp64 (model_of number) → Lists text m c w d v b n b' n' → Prints number text r w d v b n b' n'
+    pub accepted-printed : (c : Counts) (r : Told) (m : MeantModel) → r ≡ Accepted c → m ≡ or_lp64 (model_of number) → Lists text m c w d v b n b' n' → Prints number text r w d v b n b' n'
     unfolding printed_outcome table-left
     accepted-printed c r m q e f = record {
       of = λ l entry z.
@@ -52,7 +50,7 @@ module _ (number : ℕ) (text : Bytes) (w d : List ℕ) (v : List ℤ) where
           rw (g.says, sym e) (f.of (table-left c l entry g));
     }
 
-    pub rejected-printed : (k at line column : ℕ) (r : Outcome) → r ≡ Rejected k at line column → Wrote (refused_line k at line column) b n b' n' → Prints number text r w d v b n b' n'
+    pub rejected-printed : (k at line column : ℕ) (r : Told) → r ≡ Rejected k at line column → Wrote (refused_line k at line column) b n b' n' → Prints number text r w d v b n b' n'
     unfolding printed_outcome
     rejected-printed k at line column r q f = record {
       of = λ l entry z.
@@ -62,7 +60,7 @@ module _ (number : ℕ) (text : Bytes) (w d : List ℕ) (v : List ℤ) where
 
 -- ---- what a call leaves
 
-pub left_as : (l : Lent) (model : ℕ) (entry : meant.Entry) (text : Bytes) (r : Outcome) (w d : List ℕ) (v : List ℤ) → out r (lent w d v) ≡ answered l model entry text
+pub left_as : (l : Lent) (model : ℕ) (entry : meant.Entry) (text : Bytes) (r : Told) (w d : List ℕ) (v : List ℤ) → out r (lent w d v) ≡ answered l model entry text
     → lent w d v ≡ left_in l (meant.outcome model (long_enough l) entry text)
 unfolding answered shown
 left_as l model entry text r w d v e = go (meant.outcome model (long_enough l) entry text) e

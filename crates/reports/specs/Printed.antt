@@ -9,9 +9,8 @@ use Rattle.definition_laws.specs.Inside.{Acceptable}
 use Rattle.table.specs.declared.Cursor.{Cursor}
 use Rattle.clearing.specs.Slices.{lent}
 use Rattle.printing.specs.Written.{Wrote}
-use Rattle.entry_points.specs.Answers.{counts_of, out, answered}
+use Rattle.entry_points.specs.Answers.{counts_of, Told, out, answered}
 use Rattle.entry_points.specs.declared.Counts.{Counts}
-use Rattle.entry_points.specs.declared.Outcome.{Outcome}
 
 -- How long a buffer for a listing is: longer than the listing of any accepted text, which has at most `maxListing` bytes (crate `listing_length`).
 abbrev pub buffer_length : ℕ
@@ -33,11 +32,11 @@ pub record Lists (text : Bytes) (m : Model) (c : Counts) (w d : List ℕ) (v : L
   pub of : (x : Table c w d v) → Wrote (listing text m x.all.table) b n b' n'
 
 -- they are as a call with this outcome leaves them
-pub record Answered (model : ℕ) (text : Bytes) (r : Outcome) (w d : List ℕ) (v : List ℤ) : Type 0 where
+pub record Answered (model : ℕ) (text : Bytes) (r : Told) (w d : List ℕ) (v : List ℤ) : Type 0 where
   pub of : Lent
   pub entry : meant.Entry
   pub is : out r (lent w d v) ≡ answered of model entry text
 
 -- what is printed of whatever call that was
-pub record Prints (model : ℕ) (text : Bytes) (r : Outcome) (w d : List ℕ) (v : List ℤ) (b : Bytes) (n : ℕ) (b' : Bytes) (n' : ℕ) : Type 0 where
+pub record Prints (model : ℕ) (text : Bytes) (r : Told) (w d : List ℕ) (v : List ℤ) (b : Bytes) (n : ℕ) (b' : Bytes) (n' : ℕ) : Type 0 where
   pub of : (l : Lent) (entry : meant.Entry) → out r (lent w d v) ≡ answered l model entry text → Wrote (printed_outcome model text (meant.outcome model (long_enough l) entry text)) b n b' n'

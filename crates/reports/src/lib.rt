@@ -82,12 +82,12 @@ fn put_outcome(
     v: &[i64],
     outcome: Outcome,
 ) -> usize
-    requires { Answered number text.now outcome w.now d.now v.now }
-    ensures { Prints number text.now outcome w.now d.now v.now out.old 0 out.new result }
+    requires { Answered number text.now (told outcome) w.now d.now v.now }
+    ensures { Prints number text.now (told outcome) w.now d.now v.now out.old 0 out.new result }
 {
     match outcome {
-        Outcome::Accepted(counts) => put_table(out, text, model_numbered(number), w, d, v, counts),
-        Outcome::Rejected(n, offset, line, column) => put_refused(out, 0, n, offset, line, column),
+        Ok(counts) => put_table(out, text, model_numbered(number), w, d, v, counts),
+        Err(e) => put_refused(out, 0, u32::from(e.reason), e.offset, e.line, e.column),
     }
 }
 

@@ -1,8 +1,11 @@
 -- What the stores of the leaves do to the table that the slices hold. Assumes nothing.
+use mathlib.Core.Bool.{Bool, true, false}
 use mathlib.Core.Path.{◌≡◌, refl, sym, ap, subst, ◌∙◌}
 use mathlib.Core.List.{List, [], ◌∷◌, ◌++◌}
 use Prim.Native.Nat.{ℕ, ◌+◌, ◌*◌, ◌≤◌, ◌<◌}
 use native.Mathlib.Omega.{arith}
+use borrow.Author.Tests.{ltb-true, ltb-false}
+use lib.Dec.{ltb}
 use lib.IntN.{ℤ}
 use lib.ListN.{length, get_or, set, length-append, length-set}
 use lib.Seq.{set_out, get_or-set_other}
@@ -13,13 +16,22 @@ use Rattle.definition.specs.Types.{width_number}
 use Rattle.definition.specs.Lent.{member_wides, value_words, parameter_words, wides, signeds}
 use Rattle.definition.specs.Region.{members_at, names_at, values_at, parameters_at, declarations_at}
 use Rattle.table.specs.Held.{reading_words, value_slot, row_slot, top_at, Bounded, BoundedAt, no_member, no_value, no_parameter, Fits, Counts, InWords, Encodes, last_declaration_at, last_member_at, last_parameter_at, last_row_at, last_value_at}
-use Rattle.table.specs.Reply.{numbers}
+use Rattle.table.specs.Reply.{numbers, FirstSet}
 use Rattle.table.specs.Store.{row_set, member_row_set, member_place_set, value_row_set, parameter_row_set}
 use Rattle.table.specs.declared.Cursor.{Cursor}
 use Rattle.table.specs.declared.Numbers.{Numbers}
 use Rattle.table.proofs.Flat.{stored}
 use Rattle.table.proofs.Regions.{words_row, wides-row, words_set_row, wides_set_row, words-member, wides-member, words_member_row, wides_member_same, wides_member_place, words_member_same, words-value, signeds-value, words_value_row, signeds_value_same, words-parameter, words_parameter_row, words-declaration}
 use Rattle.table.proofs.Index.{half-below, index-past, marked_more, marked-on, index-row, index-put, index-value, index_renamed, rest-set}
+
+-- a first number that is set, or none where there is no such entry
+set_either : {start columns count i row : ℕ} {w w' : List ℕ} (P : List ℕ → Type 0) → FirstSet start columns count i row w w'
+    → (i < count → P (set w (start + columns * i) row)) → (count ≤ i → P w) → P w'
+set_either {start} {columns} {count} {i} {row} {w} {w'} P s there past = go (ltb i count) refl
+  where
+    go : (b : Bool) → ltb i count ≡ b → P w'
+    go true q = let p : i < count = ltb-true _ _ q in rw (s.there p) (there p)
+    go false q = let p : count ≤ i = ltb-false _ _ q in rw (s.past p) (past p)
 
 abbrev pub number_list : Numbers → List ℕ
 number_list r = r.kind ∷ r.target ∷ r.flags ∷ r.name ∷ r.first ∷ r.count ∷ []
@@ -213,3 +225,12 @@ module _ {t : Table} {c : Cursor} {w d : List ℕ} {v : List ℤ} (h : Encodes t
 
     pub parameter-past : c.parameters ≤ i → Encodes (parameter_row_set i row t) c w d v
     parameter-past p = let e : set t.parameters i y_parameter ≡ t.parameters = set_out t.parameters i y_parameter (omega (arith, h.counts.parameters)) in rw e h
+
+  pub member_row_is : {i row : ℕ} {w' : List ℕ} → FirstSet members_at 4 c.members i row w w' → Encodes (member_row_set i row t) c w' d v
+  member_row_is {i} {row} s = set_either (λ l. Encodes (member_row_set i row t) c l d v) s (member_rowed i row) (member-past i _)
+
+  pub value_row_is : {i row : ℕ} {w' : List ℕ} → FirstSet values_at 2 c.values i row w w' → Encodes (value_row_set i row t) c w' d v
+  value_row_is {i} {row} s = set_either (λ l. Encodes (value_row_set i row t) c l d v) s (value_rowed i row) (value-past i row)
+
+  pub parameter_row_is : {i row : ℕ} {w' : List ℕ} → FirstSet parameters_at 3 c.parameters i row w w' → Encodes (parameter_row_set i row t) c w' d v
+  parameter_row_is {i} {row} s = set_either (λ l. Encodes (parameter_row_set i row t) c l d v) s (parameter_rowed i row) (parameter-past i row)

@@ -4,8 +4,12 @@ use mathlib.Core.List.{List}
 use Prim.Native.Nat.{ℕ}
 use native.Mathlib.Omega.{arith}
 use lib.IntN.{ℤ}
+use Rattle.std.specs.Prelude.{Result, Err}
+use Rattle.std.specs.Result.{IsErrAnd}
+use Rattle.std.proofs.lemmas.Result.{err_from_is_err_and}
 use Rattle.definition.specs.Answer.{Answer, got, refused, ◌>>=◌}
 use Rattle.definition.specs.Table.{Table, State}
+use Rattle.encoding.specs.declared.refusals.Refusal.{Refusal}
 use Rattle.table.specs.Ends.{Ends}
 use Rattle.table.specs.Held.{state, moved_to, Encodes, Long, Room, Held, Left}
 use Rattle.table.specs.Reply.{Reply, ok, bad, Shown, Shows, done, stop, Runs, Changes}
@@ -109,6 +113,22 @@ module _ {X B : Type 0} {pack : X → State → B} {a : Answer B} {r : Reply X} 
   pub refuse : {Y D : Type 0} {pack' : Y → State → D} {r' : Reply Y} {n p : ℕ} (k : B → Answer D)
       → Shows pack a r w d v → r ≡ bad n p → r' ≡ bad n p → Shows pack' (a >>= k) r' w d v
   refuse k h q z = halt k (said h.ends q) (no_left (leaves h.ends q) z)
+
+-- at a `?`, whose clause says what was given
+module _ {X B : Type 0} {pack : X → State → B} {a : Answer B} {w d : List ℕ} {v : List ℤ} where
+  -- a call that was done: the rest is shown for whatever table it left
+  pub next : {D : Type 0} {Q : Answer D → Type 0} {c : Cursor} {i : X} (k : B → Answer D)
+      → Shows pack a (ok c i) w d v → ((t : Table) → Encodes t c w d v → Ends Q (k (pack i (state c t)))) → Ends Q (a >>= k)
+  next k h f = call k h refl f
+
+  -- a call that was refused, and so is the caller, by its own map g
+  pub exit : {Y Z D : Type 0} {pack' : Y → State → D} {r : Result Z Refusal} {e : Refusal} {n p : ℕ} (g : Result Z Refusal → Reply Y) (k : B → Answer D)
+      → Shows pack a (bad n p) w d v → IsErrAnd r (λ y. y ≡ e) → g (Err e) ≡ bad n p → Shows pack' (a >>= k) (g r) w d v
+  exit {r = r} g k h q z = let x = err_from_is_err_and r q in rw (x.1, x.2) (refuse k h refl z)
+
+pub held_next : {X B : Type 0} {pack : X → State → B} {f : State → Answer B} {c c' : Cursor} {i : X} {w d w' d' : List ℕ} {v v' : List ℤ}
+    → Runs pack f c w d v (ok c' i) w' d' v' → Held c w d v → Held c' w' d' v'
+held_next g h = held (went (g.run h.table h.encodes) refl).holds
 
 -- a call after a step in the tokens
 module _ {X B : Type 0} {pack : X → State → B} {f : State → Answer B} {w d w' d' : List ℕ} {v v' : List ℤ} {r : Reply X} where

@@ -1,20 +1,18 @@
 -- What it means that a function over the lent slices does what the definition says.
-use Rattle.std.specs.Prelude.{◌≡◌, List, ℕ, ℤ, get_or}
+use Rattle.std.specs.Prelude.{◌≡◌, List, ℕ, ℤ, ◌+◌, ◌*◌, ◌≤◌, ◌<◌, get_or, set, Result, Ok, Err}
 use Rattle.definition.specs.Answer.{Answer, got, refused}
 use Rattle.definition.specs.Row.{Row, kind_of, target_of, flags_of, row_name, span_of, extent_of}
 use Rattle.definition.specs.Table.{Table, Declaration as MeantDeclaration, State, Reads}
+use Rattle.encoding.specs.Refusals.{number_of}
 use Rattle.encoding.specs.Storage.{storage}
+use Rattle.encoding.specs.declared.refusals.Refusal.{Refusal}
 use Rattle.table.specs.Ends.{Ends}
 use Rattle.table.specs.Held.{state, Encodes, InWords, InWides, InSigneds, Left}
 use Rattle.table.specs.declared.Cursor.{Cursor}
 use Rattle.table.specs.declared.Numbers.{Numbers}
 use Rattle.table.specs.declared.Declaration.{Declaration}
-use Rattle.table.specs.declared.Step.{Step}
-use Rattle.table.specs.declared.Step.TheVariants.{Done, Refused}
-use Rattle.table.specs.declared.Move.{Move}
-use Rattle.table.specs.declared.Move.TheVariants.{To, Refused as Move-as-Refused}
 
--- An answer of the code, whatever its type: a cursor with a value, or a refusal. Every answer enum has its map to this.
+-- An answer of the code, whatever its type: a cursor with a value, or a refusal.
 pub data Reply (X : Type 0) : Type 0 where
   ok : Cursor → X → Reply X
   bad : ℕ → ℕ → Reply X
@@ -22,13 +20,20 @@ pub data Reply (X : Type 0) : Type 0 where
 pub data Nothing : Type 0 where
   none : Nothing
 
-abbrev pub step : Step → Reply ℕ
-step (Done c i) = ok c i
-step (Refused n p) = bad n p
+-- A result of the code as such an answer, by what a value in it means: a cursor with a value, or a cursor alone.
+abbrev pub replied : {X Y : Type 0} → (X → Reply Y) → Result X Refusal → Reply Y
+replied f (Ok x) = f x
+replied f (Err e) = bad (number_of e.reason) e.at
 
-abbrev pub move : Move → Reply Nothing
-move (To c) = ok c none
-move (Move-as-Refused n p) = bad n p
+abbrev pub reply : {X : Type 0} → Result (Cursor × X) Refusal → Reply X
+reply = replied (λ p. ok p.0 p.1)
+
+-- the same of a value that means one of the definition's
+abbrev pub reply_by : {X Y : Type 0} → (X → Y) → Result (Cursor × X) Refusal → Reply Y
+reply_by f = replied (λ p. ok p.0 (f p.1))
+
+abbrev pub reply_alone : Result Cursor Refusal → Reply Nothing
+reply_alone = replied (λ c. ok c none)
 
 -- how a value and a state stand in the definition's answer: both, or the state alone
 abbrev pub both : {X : Type 0} → X → State → X × State
@@ -91,3 +96,13 @@ pub record DeclarationIs (f : Table → MeantDeclaration) (w : List ℕ) (r : De
 -- k is the number at a place, 0 past the end
 pub record Peek (xs : List ℕ) (at k : ℕ) : Type 0 where
   pub is : k ≡ get_or xs at 0
+
+-- r is a number of entry i of a region: z past the entries that may be
+pub record Entry {X : Type 0} (start columns limit : ℕ) (xs : List X) (i column : ℕ) (z r : X) : Type 0 where
+  pub there : i < limit → r ≡ get_or xs (start + (columns * i + column)) z
+  pub past : limit ≤ i → r ≡ z
+
+-- The first number of entry i is set, where there is one.
+pub record FirstSet (start columns count i row : ℕ) (w w' : List ℕ) : Type 0 where
+  pub there : i < count → w' ≡ set w (start + columns * i) row
+  pub past : count ≤ i → w' ≡ w

@@ -20,11 +20,11 @@ ghost use Rattle.definition.specs.Types.{width_number};
 ghost use Rattle.definition.specs.Lent.{row_words, member_words, member_wides, value_words, parameter_words, declaration_words};
 ghost use Rattle.definition.specs.Region.{words_length, wides_length, names_at};
 ghost use Rattle.table.specs.Held.{half_of, indexed, bound_for, value_slot, moved_to, member_at, value_at, parameter_at, declaration_at, Held, Room};
-ghost use Rattle.table.specs.Reply.{step, numbers, declaration, Does, DoesAs, ChangesAs, WordIs, WideIs, SignedIs, DeclarationIs, Peek};
+ghost use Rattle.table.specs.Reply.{reply, numbers, declaration, Does, DoesAs, ChangesAs, WordIs, WideIs, SignedIs, DeclarationIs, Peek, Entry, FirstSet};
 ghost use Rattle.table.specs.Noting.{Sooner, Lowered, NotesRow, NotesTop, first_named, NoneBefore};
 ghost use Rattle.table.specs.Store.{member_pushed, value_pushed, parameter_pushed, declaration_pushed, row_set, member_row_set, member_place_set, value_row_set, parameter_row_set, ChangesWords, ChangesWides};
 
-use encoding::refusals::LIMIT_PASSED;
+use encoding::refusals::{Reason, Refusal};
 use encoding::regions::{
     DECLARATION_COLUMNS, DECLARATIONS_AT, MEMBER_COLUMNS, MEMBER_WIDE_COLUMNS, MEMBER_WIDES_AT,
     MEMBERS_AT, NAMES_AT, PARAMETER_COLUMNS, PARAMETERS_AT, ROW_COLUMNS, VALUE_COLUMNS, VALUES_AT,
@@ -60,7 +60,7 @@ pub const LAST_DECLARATION: usize = LAST_ROW + 4;
 pub const TOP: usize = LAST_ROW + 5;
 
 // Where the reader stands, and how many of each there are.
-#[derive(Clone, Copy)]
+#[derive(Clone, Copy, PartialEq, Eq)]
 pub struct Cursor {
     pub at: usize,
     pub rows: usize,
@@ -71,7 +71,7 @@ pub struct Cursor {
 }
 
 // The numbers of a row.
-#[derive(Clone, Copy)]
+#[derive(Clone, Copy, PartialEq, Eq)]
 pub struct Numbers {
     pub kind: u32,
     pub target: u32,
@@ -82,6 +82,19 @@ pub struct Numbers {
     pub extent: u64,
 }
 
+impl Numbers {
+    // What the rows that have few numbers are made from.
+    pub const ZERO: Numbers = Numbers {
+        kind: 0,
+        target: 0,
+        flags: 0,
+        name: 0,
+        first: 0,
+        count: 0,
+        extent: 0,
+    };
+}
+
 // A declaration: its storage, the row of its type, its name (0 for none).
 #[derive(Clone, Copy)]
 pub struct Declaration {
@@ -90,32 +103,15 @@ pub struct Declaration {
     pub name: u32,
 }
 
-// A number and where to read on, or a refusal: its number and the token that it names.
-#[derive(Clone, Copy)]
-pub enum Step {
-    Done(Cursor, u32),
-    Refused(u32, usize),
-}
-
-#[derive(Clone, Copy)]
-pub enum Move {
-    To(Cursor),
-    Refused(u32, usize),
-}
+// A value and where to read on, or the refusal of the token that it names.
+pub type Answer<T> = Result<(Cursor, T), Refusal>;
 
 impl Cursor {
     // The same table, read from another token on.
     pub fn moved(self, at: usize) -> Cursor
         ensures { result ≡ moved_to self at }
     {
-        Cursor {
-            at,
-            rows: self.rows,
-            members: self.members,
-            values: self.values,
-            parameters: self.parameters,
-            declarations: self.declarations,
-        }
+        Cursor { at, ..self }
     }
 }
 
@@ -125,20 +121,89 @@ impl Cursor {
 pub fn kind_at(kinds: &[u32], at: usize) -> u32
     ensures { Peek kinds.now at result }
 {
-    if kinds.len() <= at {
-        return 0;
-    }
-    kinds[at]
+    kinds.get(at).copied().unwrap_or(0)
 }
 
 // The number of a token, or of d: 0 past the end.
 pub fn number_at(numbers: &[u64], at: usize) -> u64
     ensures { Peek numbers.now at result }
 {
-    if numbers.len() <= at {
-        return 0;
+    numbers.get(at).copied().unwrap_or(0)
+}
+
+// Entries in a slice: where the first begins, how many numbers each has, how many there may be.
+#[derive(Clone, Copy)]
+struct Region {
+    start: usize,
+    columns: usize,
+    limit: usize,
+}
+
+const ROWS: Region = Region {
+    start: 0,
+    columns: ROW_COLUMNS,
+    limit: Model::MAX_ROWS,
+};
+
+const MEMBERS: Region = Region {
+    start: MEMBERS_AT,
+    columns: MEMBER_COLUMNS,
+    limit: Model::MAX_MEMBERS,
+};
+
+const VALUES: Region = Region {
+    start: VALUES_AT,
+    columns: VALUE_COLUMNS,
+    limit: Model::MAX_VALUES,
+};
+
+const PARAMETERS: Region = Region {
+    start: PARAMETERS_AT,
+    columns: PARAMETER_COLUMNS,
+    limit: Model::MAX_PARAMETERS,
+};
+
+const DECLARATIONS: Region = Region {
+    start: DECLARATIONS_AT,
+    columns: DECLARATION_COLUMNS,
+    limit: Model::MAX_DECLARATIONS,
+};
+
+const EXTENTS: Region = Region {
+    start: 0,
+    columns: 1,
+    limit: Model::MAX_ROWS,
+};
+
+const PLACES: Region = Region {
+    start: MEMBER_WIDES_AT,
+    columns: MEMBER_WIDE_COLUMNS,
+    limit: Model::MAX_MEMBERS,
+};
+
+impl Region {
+    // A number of entry i: 0 past the entries that may be.
+    fn number<T: Copy>(self, xs: &[T], i: usize, column: usize, zero: T) -> T
+        requires { (self.start + self.columns * self.limit ≤ words_length) × (column < self.columns) }
+        ensures { Entry self.start self.columns self.limit xs.now i column zero result }
+    {
+        if self.limit <= i {
+            return zero;
+        }
+        xs.get(self.start + self.columns * i + column)
+            .copied()
+            .unwrap_or(zero)
     }
-    numbers[at]
+
+    // The first number of entry i, where it is one of those that there are: the row that it carries.
+    fn set_first(self, w: &mut [u32], count: usize, i: usize, row: u32)
+        requires { (length w.old ≡ words_length) × ((self.start + self.columns * self.limit ≤ words_length) × ((0 < self.columns) × (count ≤ self.limit))) }
+        ensures { FirstSet self.start self.columns count i row w.old w.new }
+    {
+        if i < count {
+            w[self.start + self.columns * i] = row;
+        }
+    }
 }
 
 // The columns of rows.
@@ -146,11 +211,7 @@ fn row_word(w: &[u32], n: u32, column: usize) -> u32
     requires { column < 6 }
     ensures { WordIs (λ t. get_or (row_words (row_at t n)) column 0) w.now result }
 {
-    let i = n as usize;
-    if Model::MAX_ROWS <= i {
-        return 0;
-    }
-    kind_at(w, ROW_COLUMNS * i + column)
+    ROWS.number(w, n as usize, column, 0)
 }
 
 pub fn row_kind(w: &[u32], n: u32) -> u32
@@ -192,11 +253,7 @@ pub fn row_count(w: &[u32], n: u32) -> u32
 pub fn row_extent(d: &[u64], n: u32) -> u64
     ensures { WideIs (λ t. extent_of (row_at t n)) d.now result }
 {
-    let i = n as usize;
-    if Model::MAX_ROWS <= i {
-        return 0;
-    }
-    number_at(d, i)
+    EXTENTS.number(d, n as usize, 0, 0)
 }
 
 // The columns of members.
@@ -204,10 +261,7 @@ fn member_word(w: &[u32], i: usize, column: usize) -> u32
     requires { column < 4 }
     ensures { WordIs (λ t. get_or (member_words (member_at t i)) column 0) w.now result }
 {
-    if Model::MAX_MEMBERS <= i {
-        return 0;
-    }
-    kind_at(w, MEMBERS_AT + MEMBER_COLUMNS * i + column)
+    MEMBERS.number(w, i, column, 0)
 }
 
 pub fn member_row(w: &[u32], i: usize) -> u32
@@ -239,10 +293,7 @@ fn member_wide(d: &[u64], i: usize, column: usize) -> u64
     requires { column < 2 }
     ensures { WideIs (λ t. get_or (member_wides (member_at t i)) column 0) d.now result }
 {
-    if Model::MAX_MEMBERS <= i {
-        return 0;
-    }
-    number_at(d, MEMBER_WIDES_AT + MEMBER_WIDE_COLUMNS * i + column)
+    PLACES.number(d, i, column, 0)
 }
 
 pub fn member_offset(d: &[u64], i: usize) -> u64
@@ -262,10 +313,7 @@ fn value_word(w: &[u32], i: usize, column: usize) -> u32
     requires { column < 2 }
     ensures { WordIs (λ t. get_or (value_words (value_at t i)) column 0) w.now result }
 {
-    if Model::MAX_VALUES <= i {
-        return 0;
-    }
-    kind_at(w, VALUES_AT + VALUE_COLUMNS * i + column)
+    VALUES.number(w, i, column, 0)
 }
 
 pub fn value_row(w: &[u32], i: usize) -> u32
@@ -280,16 +328,11 @@ pub fn value_name(w: &[u32], i: usize) -> u32
     value_word(w, i, 1)
 }
 
+#[tactic(auto, using(crate::proofs::Columns::signed_is))]
 pub fn value_at(v: &[i64], i: usize) -> i64
     ensures { SignedIs (λ t. (value_at t i).value) v.now result }
 {
-    if Model::MAX_VALUES <= i {
-        return 0;
-    }
-    if v.len() <= i {
-        return 0;
-    }
-    v[i]
+    v.get(i).copied().unwrap_or(0)
 }
 
 // The columns of parameters.
@@ -297,10 +340,7 @@ fn parameter_word(w: &[u32], i: usize, column: usize) -> u32
     requires { column < 3 }
     ensures { WordIs (λ t. get_or (parameter_words (parameter_at t i)) column 0) w.now result }
 {
-    if Model::MAX_PARAMETERS <= i {
-        return 0;
-    }
-    kind_at(w, PARAMETERS_AT + PARAMETER_COLUMNS * i + column)
+    PARAMETERS.number(w, i, column, 0)
 }
 
 pub fn parameter_row(w: &[u32], i: usize) -> u32
@@ -326,10 +366,7 @@ fn declaration_word(w: &[u32], i: usize, column: usize) -> u32
     requires { column < 3 }
     ensures { WordIs (λ t. get_or (declaration_words (declaration_at t i)) column 0) w.now result }
 {
-    if Model::MAX_DECLARATIONS <= i {
-        return 0;
-    }
-    kind_at(w, DECLARATIONS_AT + DECLARATION_COLUMNS * i + column)
+    DECLARATIONS.number(w, i, column, 0)
 }
 
 pub fn declaration_at(w: &[u32], i: usize) -> Declaration
@@ -369,13 +406,7 @@ fn note_top(w: &mut [u32], name: u32)
 fn sooner(bound: u32, row: u32) -> u32
     ensures { Sooner bound row result }
 {
-    if bound == 0 {
-        return row;
-    }
-    if row < bound {
-        return row;
-    }
-    bound
+    if bound == 0 { row } else { bound.min(row) }
 }
 
 // A noted number with a row of a kind, counted from 1.
@@ -386,9 +417,10 @@ fn lowered(noted: u32, kind: u32, row: u32) -> u32
     let names = noted % TAG_BOUND;
     let tags = noted / TAG_BOUND;
     if kind == TYPEDEF_KIND {
-        return tags * TAG_BOUND + sooner(names, row);
+        tags * TAG_BOUND + sooner(names, row)
+    } else {
+        sooner(tags, row) * TAG_BOUND + names
     }
-    sooner(tags, row) * TAG_BOUND + names
 }
 
 // Row n has the kind and the name: no search for them begins after n.
@@ -416,9 +448,10 @@ fn bound_for(noted: u32, kind: u32) -> u32
     ensures { result ≡ bound_for kind noted }
 {
     if kind == TYPEDEF_KIND {
-        return noted % TAG_BOUND;
+        noted % TAG_BOUND
+    } else {
+        noted / TAG_BOUND
     }
-    noted / TAG_BOUND
 }
 
 // A row that is counted from 1.
@@ -455,13 +488,16 @@ pub fn first_named(w: &[u32], kind: u32, name: u32) -> usize
 // ---- stores
 
 // The next row: refused where there are as many as may be.
-pub fn push_row(w: &mut [u32], d: &mut [u64], v: &mut [i64], c: Cursor, row: Numbers) -> Step
+pub fn push_row(w: &mut [u32], d: &mut [u64], v: &mut [i64], c: Cursor, row: Numbers) -> Answer<u32>
     requires { Held c w.old d.old v.old }
-    ensures { DoesAs numbers row push_row c w.old d.old v.old (step result) w.new d.new v.new }
+    ensures { DoesAs numbers row push_row c w.old d.old v.old (reply result) w.new d.new v.new }
 {
     let n = c.rows;
     if Model::MAX_ROWS <= n {
-        return Step::Refused(LIMIT_PASSED, c.at);
+        return Err(Refusal {
+            reason: Reason::LimitPassed,
+            at: c.at,
+        });
     }
     note_top(w, row.name);
     note_row(w, row.kind, row.name, n);
@@ -474,17 +510,7 @@ pub fn push_row(w: &mut [u32], d: &mut [u64], v: &mut [i64], c: Cursor, row: Num
     w[b + 4] = row.first;
     w[b + 5] = row.count;
     d[n] = row.extent;
-    Step::Done(
-        Cursor {
-            at: c.at,
-            rows: n + 1,
-            members: c.members,
-            values: c.values,
-            parameters: c.parameters,
-            declarations: c.declarations,
-        },
-        n as u32,
-    )
+    Ok((Cursor { rows: n + 1, ..c }, n as u32))
 }
 
 // The next member; its first bit is known when its body is laid out.
@@ -498,13 +524,16 @@ pub fn push_member(
     name: u32,
     width: u32,
     offset: u64,
-) -> Step
+) -> Answer<u32>
     requires { Held c w.old d.old v.old }
-    ensures { DoesAs width_number width (member_pushed row ty name offset) c w.old d.old v.old (step result) w.new d.new v.new }
+    ensures { DoesAs width_number width (member_pushed row ty name offset) c w.old d.old v.old (reply result) w.new d.new v.new }
 {
     let n = c.members;
     if Model::MAX_MEMBERS <= n {
-        return Step::Refused(LIMIT_PASSED, c.at);
+        return Err(Refusal {
+            reason: Reason::LimitPassed,
+            at: c.at,
+        });
     }
     w[LAST_MEMBER] = n as u32;
     let b = MEMBERS_AT + MEMBER_COLUMNS * n;
@@ -515,17 +544,13 @@ pub fn push_member(
     let e = MEMBER_WIDES_AT + MEMBER_WIDE_COLUMNS * n;
     d[e] = offset;
     d[e + 1] = 0;
-    Step::Done(
+    Ok((
         Cursor {
-            at: c.at,
-            rows: c.rows,
             members: n + 1,
-            values: c.values,
-            parameters: c.parameters,
-            declarations: c.declarations,
+            ..c
         },
         n as u32,
-    )
+    ))
 }
 
 // The next value.
@@ -537,13 +562,16 @@ pub fn push_value(
     row: u32,
     name: u32,
     value: i64,
-) -> Step
+) -> Answer<u32>
     requires { Held c w.old d.old v.old }
-    ensures { Does (value_pushed row name value) c w.old d.old v.old (step result) w.new d.new v.new }
+    ensures { Does (value_pushed row name value) c w.old d.old v.old (reply result) w.new d.new v.new }
 {
     let n = c.values;
     if Model::MAX_VALUES <= n {
-        return Step::Refused(LIMIT_PASSED, c.at);
+        return Err(Refusal {
+            reason: Reason::LimitPassed,
+            at: c.at,
+        });
     }
     note_top(w, name);
     note_value(w, name, n);
@@ -552,17 +580,7 @@ pub fn push_value(
     w[b] = row;
     w[b + 1] = name;
     v[n] = value;
-    Step::Done(
-        Cursor {
-            at: c.at,
-            rows: c.rows,
-            members: c.members,
-            values: n + 1,
-            parameters: c.parameters,
-            declarations: c.declarations,
-        },
-        n as u32,
-    )
+    Ok((Cursor { values: n + 1, ..c }, n as u32))
 }
 
 // The next parameter.
@@ -574,30 +592,29 @@ pub fn push_parameter(
     row: u32,
     ty: u32,
     name: u32,
-) -> Step
+) -> Answer<u32>
     requires { Held c w.old d.old v.old }
-    ensures { Does (parameter_pushed row ty name) c w.old d.old v.old (step result) w.new d.new v.new }
+    ensures { Does (parameter_pushed row ty name) c w.old d.old v.old (reply result) w.new d.new v.new }
 {
     let n = c.parameters;
     if Model::MAX_PARAMETERS <= n {
-        return Step::Refused(LIMIT_PASSED, c.at);
+        return Err(Refusal {
+            reason: Reason::LimitPassed,
+            at: c.at,
+        });
     }
     w[LAST_PARAMETER] = n as u32;
     let b = PARAMETERS_AT + PARAMETER_COLUMNS * n;
     w[b] = row;
     w[b + 1] = ty;
     w[b + 2] = name;
-    Step::Done(
+    Ok((
         Cursor {
-            at: c.at,
-            rows: c.rows,
-            members: c.members,
-            values: c.values,
             parameters: n + 1,
-            declarations: c.declarations,
+            ..c
         },
         n as u32,
-    )
+    ))
 }
 
 // The next declaration.
@@ -609,36 +626,41 @@ pub fn push_declaration(
     storage: u32,
     ty: u32,
     name: u32,
-) -> Step
+) -> Answer<u32>
     requires { Held c w.old d.old v.old }
-    ensures { DoesAs storage_number storage (declaration_pushed ty name) c w.old d.old v.old (step result) w.new d.new v.new }
+    ensures { DoesAs storage_number storage (declaration_pushed ty name) c w.old d.old v.old (reply result) w.new d.new v.new }
 {
     let n = c.declarations;
     if Model::MAX_DECLARATIONS <= n {
-        return Step::Refused(LIMIT_PASSED, c.at);
+        return Err(Refusal {
+            reason: Reason::LimitPassed,
+            at: c.at,
+        });
     }
     w[LAST_DECLARATION] = n as u32;
     let base = DECLARATIONS_AT + DECLARATION_COLUMNS * n;
     w[base] = storage;
     w[base + 1] = ty;
     w[base + 2] = name;
-    Step::Done(
+    Ok((
         Cursor {
-            at: c.at,
-            rows: c.rows,
-            members: c.members,
-            values: c.values,
-            parameters: c.parameters,
             declarations: n + 1,
+            ..c
         },
         n as u32,
-    )
+    ))
 }
 
 // The same for a declaration of the code.
-pub fn push_declared(w: &mut [u32], d: &mut [u64], v: &mut [i64], c: Cursor, x: Declaration) -> Step
+pub fn push_declared(
+    w: &mut [u32],
+    d: &mut [u64],
+    v: &mut [i64],
+    c: Cursor,
+    x: Declaration,
+) -> Answer<u32>
     requires { Held c w.old d.old v.old }
-    ensures { Does (push_declaration (declaration x)) c w.old d.old v.old (step result) w.new d.new v.new }
+    ensures { Does (push_declaration (declaration x)) c w.old d.old v.old (reply result) w.new d.new v.new }
 {
     let storage = x.storage;
     push_declaration(w, d, v, c, storage.number(), x.ty, x.name)
@@ -669,9 +691,7 @@ pub fn set_member_row(w: &mut [u32], c: Cursor, i: usize, row: u32)
     requires { (length w.old ≡ words_length) × Room c }
     ensures { ChangesWords (member_row_set i row) c w.old w.new }
 {
-    if i < c.members {
-        w[MEMBERS_AT + MEMBER_COLUMNS * i] = row;
-    }
+    MEMBERS.set_first(w, c.members, i, row)
 }
 
 // The row that value i carries.
@@ -679,9 +699,7 @@ pub fn set_value_row(w: &mut [u32], c: Cursor, i: usize, row: u32)
     requires { (length w.old ≡ words_length) × Room c }
     ensures { ChangesWords (value_row_set i row) c w.old w.new }
 {
-    if i < c.values {
-        w[VALUES_AT + VALUE_COLUMNS * i] = row;
-    }
+    VALUES.set_first(w, c.values, i, row)
 }
 
 // The row that parameter i carries.
@@ -689,9 +707,7 @@ pub fn set_parameter_row(w: &mut [u32], c: Cursor, i: usize, row: u32)
     requires { (length w.old ≡ words_length) × Room c }
     ensures { ChangesWords (parameter_row_set i row) c w.old w.new }
 {
-    if i < c.parameters {
-        w[PARAMETERS_AT + PARAMETER_COLUMNS * i] = row;
-    }
+    PARAMETERS.set_first(w, c.parameters, i, row)
 }
 
 // The place of member i: its offset in bytes, and its first bit.

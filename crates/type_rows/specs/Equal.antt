@@ -1,6 +1,6 @@
 -- What is told of a new row, whose numbers the code has, and the rows of the table that the slices hold.
-use Rattle.std.specs.Prelude.{◌≡◌, Bool, List, ℕ, ℤ}
-use Rattle.std.proofs.Math.Option.{Option}
+use Rattle.std.specs.Prelude.{◌≡◌, Bool, List, ℕ, ℤ, Option}
+use Rattle.std.proofs.Math.Option.{Option as MeantOption}
 use Rattle.definition.specs.RowKind.{qualified_kind}
 use Rattle.definition.specs.Row.{Row, Qualifiers, kind_of, span_of, qualifier_bits}
 use Rattle.definition.specs.Table.{Table, row_at}
@@ -9,8 +9,7 @@ use Rattle.table.specs.Held.{Encodes, InWords, InWides}
 use Rattle.table.specs.Reply.{numbers}
 use Rattle.table.specs.declared.Cursor.{Cursor}
 use Rattle.table.specs.declared.Numbers.{Numbers}
-use Rattle.named_rows.specs.declared.Found.{Found}
-use Rattle.named_rows.specs.Finds.{found}
+use Rattle.lemmas.specs.Options.{option}
 
 pub record NumbersSame (row : Numbers) (n : ℕ) (w d : List ℕ) (r : Bool) : Type 0 where
   pub of : (t : Table) (x : Row) → InWords t w → InWides t d → row ≡ numbers x → r ≡ same_numbers x (row_at t n)
@@ -22,8 +21,8 @@ pub record EntriesSame (row : Numbers) (n : ℕ) (c : Cursor) (w d : List ℕ) (
 pub record RowSays (f : Table → Row → Bool) (row : Numbers) (c : Cursor) (w d : List ℕ) (v : List ℤ) (r : Bool) : Type 0 where
   pub of : (t : Table) (x : Row) → Encodes t c w d v → row ≡ numbers x → r ≡ f t x
 
-pub record RowFinds (f : Table → Row → Option ℕ) (row : Numbers) (c : Cursor) (w d : List ℕ) (v : List ℤ) (r : Found) : Type 0 where
-  pub of : (t : Table) (x : Row) → Encodes t c w d v → row ≡ numbers x → found r ≡ f t x
+pub record RowFinds (f : Table → Row → MeantOption ℕ) (row : Numbers) (c : Cursor) (w d : List ℕ) (v : List ℤ) (r : Option ℕ) : Type 0 where
+  pub of : (t : Table) (x : Row) → Encodes t c w d v → row ≡ numbers x → option r ≡ f t x
 
 -- the flags of row n, where it has qualifiers, with others
 pub record MergedBits (q : Qualifiers) (n : ℕ) (w : List ℕ) (r : ℕ) : Type 0 where

@@ -7,71 +7,58 @@ ghost use Rattle.definition.specs.Table.{row_at};
 ghost use Rattle.definition.specs.Types.{same_row, equal_row, add, qualify};
 ghost use Rattle.definition.specs.Region.{members_at};
 ghost use Rattle.table.specs.Held.{Held, Room};
-ghost use Rattle.table.specs.Reply.{step, numbers, Does, DoesAs};
+ghost use Rattle.table.specs.Reply.{reply, numbers, Does, DoesAs};
 ghost use Rattle.words.specs.Meaning.{qualifiers};
 ghost use Rattle.type_rows.specs.Equal.{NumbersSame, EntriesSame, RowSays, RowFinds, MergedBits};
 
 use encoding::regions::{MEMBERS_AT, OPEN_LIST, ROW_COLUMNS, ROW_TARGET};
 use encoding::row_kinds::{ENUM_KIND, FUNCTION_KIND, QUALIFIED_KIND};
-use named_rows::Found;
 use same_entries::{same_members, same_parameters, same_values};
 use table::{
-    Cursor, Numbers, Step, push_row, row_count, row_extent, row_first, row_flags, row_kind,
+    Answer, Cursor, Numbers, push_row, row_count, row_extent, row_first, row_flags, row_kind,
     row_name, row_target,
 };
 use words::qualifiers::Qualifiers;
 
 // The numbers of a new row are those of row n, but for where their entries stand.
+#[tactic(auto, unfolding(definition::specs::Types::same_numbers))]
 fn same_numbers(w: &[u32], d: &[u64], row: Numbers, n: u32) -> bool
     ensures { NumbersSame row n w.now d.now result }
 {
-    if row.kind != row_kind(w, n) {
-        return false;
-    }
-    if row.target != row_target(w, n) {
-        return false;
-    }
-    if row.flags != row_flags(w, n) {
-        return false;
-    }
-    if row.name != row_name(w, n) {
-        return false;
-    }
-    if row.count != row_count(w, n) {
-        return false;
-    }
-    row.extent == row_extent(d, n)
+    row.kind == row_kind(w, n)
+        && row.target == row_target(w, n)
+        && row.flags == row_flags(w, n)
+        && row.name == row_name(w, n)
+        && row.count == row_count(w, n)
+        && row.extent == row_extent(d, n)
 }
 
 // The entries of a new row, which carry its list's mark, are those of row n, which has as many.
+#[tactic(auto, unfolding(definition::specs::Types::same_entries, definition::specs::Table::mark_of))]
 fn same_entries(w: &[u32], d: &[u64], v: &[i64], c: Cursor, row: Numbers, n: u32) -> bool
     requires { row.first ≤ 4096 }
     ensures { EntriesSame row n c w.now d.now v.now result }
 {
     let mark = OPEN_LIST + row.first;
     let first = row.first as usize;
-    let o = row_first(w, n);
-    let other = o as usize;
-    if row.kind == FUNCTION_KIND {
-        return same_parameters(w, c.parameters, mark, first, n, other, row.count);
+    let other = row_first(w, n) as usize;
+    match row.kind {
+        FUNCTION_KIND => same_parameters(w, c.parameters, mark, first, n, other, row.count),
+        ENUM_KIND => same_values(w, v, c.values, mark, first, n, other, row.count),
+        _ => same_members(w, d, c.members, mark, first, n, other, row.count),
     }
-    if row.kind == ENUM_KIND {
-        return same_values(w, v, c.values, mark, first, n, other, row.count);
-    }
-    same_members(w, d, c.members, mark, first, n, other, row.count)
 }
 
+#[tactic(auto, unfolding(definition::specs::Types::same_row), using(crate::proofs::Same::same_count))]
 fn same_row(w: &[u32], d: &[u64], v: &[i64], c: Cursor, row: Numbers, n: u32) -> bool
     requires { row.first ≤ 4096 }
     ensures { RowSays (λ t x. same_row t x n (row_at t n)) row c w.now d.now v.now result }
 {
-    if !same_numbers(w, d, row, n) {
-        return false;
-    }
-    same_entries(w, d, v, c, row, n)
+    same_numbers(w, d, row, n) && same_entries(w, d, v, c, row, n)
 }
 
 // Row i, in a slice that has all rows, equals a new one. Few rows are of its kind and target, so these are compared first.
+#[tactic(auto, using(crate::proofs::Same::columns), unfolding(definition::specs::Types::same_numbers, definition::specs::Types::same_row))]
 fn is_equal(w: &[u32], d: &[u64], v: &[i64], c: Cursor, row: Numbers, i: usize) -> bool
     requires i_lt_max_rows { i < max_rows }
     requires members_at_in_bounds { members_at ≤ length w.now }
@@ -79,47 +66,39 @@ fn is_equal(w: &[u32], d: &[u64], v: &[i64], c: Cursor, row: Numbers, i: usize) 
     ensures { RowSays (λ t x. same_row t x i (row_at t i)) row c w.now d.now v.now result }
 {
     let at = ROW_COLUMNS * i;
-    if row.kind != w[at] {
-        return false;
-    }
-    if row.target != w[at + ROW_TARGET] {
-        return false;
-    }
-    same_row(w, d, v, c, row, i as u32)
+    row.kind == w[at] && row.target == w[at + ROW_TARGET] && same_row(w, d, v, c, row, i as u32)
 }
 
 // The first row that a new one equals. A slice shorter than all rows holds no table.
-pub fn equal_row(w: &[u32], d: &[u64], v: &[i64], c: Cursor, row: Numbers) -> Found
+#[tactic(auto, using(crate::proofs::Same::searches))]
+pub fn equal_row(w: &[u32], d: &[u64], v: &[i64], c: Cursor, row: Numbers) -> Option<u32>
     requires { Room c × (row.first ≤ 4096) }
     ensures { RowFinds (λ t x. equal_row t x 0 t.rows) row c w.now d.now v.now result }
 {
     if w.len() < MEMBERS_AT {
-        return Found::Nothing;
+        return None;
     }
-    let rows = c.rows;
-    let mut i = 0;
-    while i < rows {
+    for i in 0..c.rows {
         if is_equal(w, d, v, c, row, i) {
-            return Found::At(i as u32);
+            return Some(i as u32);
         }
-        i = i + 1;
     }
-    Found::Nothing
+    None
 }
 
 // `add` of an unnamed type: an equal row, or the next one.
-pub fn add_row(w: &mut [u32], d: &mut [u64], v: &mut [i64], c: Cursor, row: Numbers) -> Step
+pub fn add_row(w: &mut [u32], d: &mut [u64], v: &mut [i64], c: Cursor, row: Numbers) -> Answer<u32>
     requires { Held c w.old d.old v.old × (row.first ≤ 4096) }
-    ensures { DoesAs numbers row add c w.old d.old v.old (step result) w.new d.new v.new }
+    ensures { DoesAs numbers row add c w.old d.old v.old (reply result) w.new d.new v.new }
 {
-    let f = equal_row(w, d, v, c, row);
-    if let Found::At(n) = f {
-        return Step::Done(c, n);
+    match equal_row(w, d, v, c, row) {
+        Some(n) => Ok((c, n)),
+        None => push_row(w, d, v, c, row),
     }
-    push_row(w, d, v, c, row)
 }
 
 // The qualifiers of row n, which has some, with others: as flags.
+#[tactic(auto, using(crate::proofs::Same::qualifiers_are))]
 fn merged_bits(w: &[u32], n: u32, q: Qualifiers) -> u32
     ensures { MergedBits (qualifiers q) n w.now result }
 {
@@ -128,9 +107,17 @@ fn merged_bits(w: &[u32], n: u32, q: Qualifiers) -> u32
 }
 
 // Row n with qualifiers.
-fn add_qualified(w: &mut [u32], d: &mut [u64], v: &mut [i64], c: Cursor, flags: u32, n: u32) -> Step
+#[tactic(auto, unfolding(definition::specs::Row::kind_of, definition::specs::Row::target_of, definition::specs::Row::flags_of, definition::specs::Row::row_name, definition::specs::Row::span_of, definition::specs::Row::extent_of))]
+fn add_qualified(
+    w: &mut [u32],
+    d: &mut [u64],
+    v: &mut [i64],
+    c: Cursor,
+    flags: u32,
+    n: u32,
+) -> Answer<u32>
     requires { Held c w.old d.old v.old }
-    ensures { DoesAs qualifier_bits flags (λ q. add (qualified n q)) c w.old d.old v.old (step result) w.new d.new v.new }
+    ensures { DoesAs qualifier_bits flags (λ q. add (qualified n q)) c w.old d.old v.old (reply result) w.new d.new v.new }
 {
     add_row(
         w,
@@ -141,10 +128,7 @@ fn add_qualified(w: &mut [u32], d: &mut [u64], v: &mut [i64], c: Cursor, flags: 
             kind: QUALIFIED_KIND,
             target: n,
             flags,
-            name: 0,
-            first: 0,
-            count: 0,
-            extent: 0,
+            ..Numbers::ZERO
         },
     )
 }
@@ -157,12 +141,12 @@ pub fn qualify(
     c: Cursor,
     q: Qualifiers,
     n: u32,
-) -> Step
+) -> Answer<u32>
     requires { Held c w.old d.old v.old }
-    ensures { Does (qualify (qualifiers q) n) c w.old d.old v.old (step result) w.new d.new v.new }
+    ensures { Does (qualify (qualifiers q) n) c w.old d.old v.old (reply result) w.new d.new v.new }
 {
     if q.is_unqualified() {
-        return Step::Done(c, n);
+        return Ok((c, n));
     }
     if row_kind(w, n) == QUALIFIED_KIND {
         return add_qualified(w, d, v, c, merged_bits(w, n, q), row_target(w, n));

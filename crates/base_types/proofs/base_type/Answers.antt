@@ -1,17 +1,13 @@
-use borrow.Author.Rules.{rules}
-use mathlib.Core.Path.{ap}
+use mathlib.Core.Path.{refl}
 use Rattle.definition.specs.Specifiers.{base_type}
-use Rattle.table.specs.Reply.{step}
-use Rattle.table.proofs.Shown.{call, fail, held_on}
+use Rattle.table.specs.Reply.{reply}
+use Rattle.table.proofs.Shown.{next, exit}
 use Rattle.base_types.proofs.base_type.Goals as goal
 
-pub returns-in_default : goal.returns-in_default
+pub returns-in_err-e : goal.returns-in_err-e
 unfolding base_type
-returns-in_default c = record { run = λ t h. fail _ (c.words_type-r.ensures.run t h) (ap step c.in_default.is) }
-
-pub qualify-requires : goal.qualify-requires
-qualify-requires c = held_on c.words_type-r.ensures c.requires (ap step c.in-Done.is)
+returns-in_err-e c = record { run = λ t h. exit reply _ (c.in_err-e.ensures.run t h) c.from_residual.ensures.1 refl }
 
 pub returns : goal.returns
 unfolding base_type
-returns c = record { run = λ t h. call _ (c.words_type-r.ensures.run t h) (ap step c.in-Done.is) (λ t₁ h₁. c.qualify.ensures.run t₁ h₁) }
+returns c = record { run = λ t h. next _ (c.in_ok-e.ensures.run t h) c.qualify.ensures.run }

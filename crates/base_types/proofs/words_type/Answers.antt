@@ -1,5 +1,4 @@
-use borrow.Author.Rules.{rules}
-use mathlib.Core.Path.{refl, sym, ap, ◌∙◌}
+use mathlib.Core.Path.{refl, ap}
 use Rattle.definition.specs.Specifiers.{words_type}
 use Rattle.table.proofs.Branch.{some!, none! }
 use Rattle.table.proofs.Shown.{got!, no! }
@@ -12,10 +11,10 @@ pub returns-in-Some : goal.returns-in-Some
 unfolding words_type
 returns-in-Some c = record { run = λ t h. some! _ _ _ (ap base c.in-Some.is) (got! h) }
 
-pub returns-in_default-k : goal.returns-in_default-k
+pub returns-in_default-combine : goal.returns-in_default-combine
 unfolding words_type
-returns-in_default-k c = record { run = λ t h. none! _ _ _ (ap base c.in_default.is) (none-added _ _ _ (sym c.in_default-k.is ∙ c.combine-k.ensures) (no! h refl)) }
+returns-in_default-combine c = record { run = λ t h. none! _ _ _ (ap base c.in_default.is) (none-added _ _ _ c.in_default-combine.ensures (no! h refl)) }
 
 pub returns : goal.returns
 unfolding words_type
-returns c = record { run = λ t h. none! _ _ _ (ap base c.in_default.is) (added _ _ (combine-plain _ _) (sym c.in-Some-k.is ∙ c.combine-k.ensures) c.add_base.ensures h) }
+returns c = record { run = λ t h. none! _ _ _ (ap base c.in_default.is) (added _ _ (combine-plain _ _) c.in-Some-combine.ensures c.add_base.ensures h) }

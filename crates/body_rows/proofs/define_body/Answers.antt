@@ -1,4 +1,3 @@
-use borrow.Author.Rules.{rules}
 use mathlib.Core.Option.{some}
 use Rattle.definition.specs.Row.{composite}
 use Rattle.definition.specs.Table.{bodied}

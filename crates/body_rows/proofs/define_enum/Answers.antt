@@ -1,4 +1,3 @@
-use borrow.Author.Rules.{rules}
 use Rattle.definition.specs.Row.{enumeration}
 use Rattle.definition.specs.Table.{bodied}
 use Rattle.definition.specs.Enumeration.{define_enum}

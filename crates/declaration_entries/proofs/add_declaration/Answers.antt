@@ -1,16 +1,13 @@
-use mathlib.Core.Path.{refl, ap}
-use Rattle.table.specs.Reply.{step}
-use Rattle.table.proofs.Shown.{call, refuse, held_on}
+use mathlib.Core.Path.{refl}
+use Rattle.table.specs.Reply.{reply_alone}
+use Rattle.table.proofs.Shown.{next, exit}
 use Rattle.declaration_entries.specs.Pieces.{added_declaration}
 use Rattle.declaration_entries.proofs.add_declaration.Goals as goal
 
-pub declare-requires : goal.declare-requires
-declare-requires c = held_on c.declared_row-r.ensures c.requires (ap step c.in-Done.is)
-
-pub returns-in-Done : goal.returns-in-Done
+pub returns : goal.returns
 unfolding added_declaration
-returns-in-Done c = record { run = λ t h. call _ (c.declared_row-r.ensures.run t h) (ap step c.in-Done.is) (λ t₁ h₁. c.declare.ensures.run t₁ h₁) }
+returns c = record { run = λ t h. next _ (c.in_ok-e.ensures.run t h) c.declare.ensures.run }
 
-pub returns-in-Refused : goal.returns-in-Refused
+pub returns-in_err-e : goal.returns-in_err-e
 unfolding added_declaration
-returns-in-Refused c = record { run = λ t h. refuse _ (c.declared_row-r.ensures.run t h) (ap step c.in-Refused.is) refl }
+returns-in_err-e c = record { run = λ t h. exit reply_alone _ (c.in_err-e.ensures.run t h) c.from_residual.ensures.1 refl }

@@ -1,13 +1,13 @@
-use mathlib.Core.Path.{refl, ap}
+use mathlib.Core.Path.{refl}
 use Rattle.definition.specs.Reader.{declare}
-use Rattle.table.specs.Reply.{step}
-use Rattle.table.proofs.Shown.{call, refuse, got! }
+use Rattle.table.specs.Reply.{reply_alone}
+use Rattle.table.proofs.Shown.{got!, next, exit}
 use Rattle.declaration_entries.proofs.declare.Goals as goal
 
-pub returns-in-Done : goal.returns-in-Done
+pub returns : goal.returns
 unfolding declare
-returns-in-Done c = record { run = λ t h. call _ (c.push_declared-r.ensures.run t h) (ap step c.in-Done.is) (λ t₁ h₁. got! h₁) }
+returns c = record { run = λ t h. next _ (c.in_ok-e.ensures.run t h) (λ t₁ h₁. got! h₁) }
 
-pub returns-in-Refused : goal.returns-in-Refused
+pub returns-in_err-e : goal.returns-in_err-e
 unfolding declare
-returns-in-Refused c = record { run = λ t h. refuse _ (c.push_declared-r.ensures.run t h) (ap step c.in-Refused.is) refl }
+returns-in_err-e c = record { run = λ t h. exit reply_alone _ (c.in_err-e.ensures.run t h) c.from_residual.ensures.1 refl }

@@ -1,16 +1,11 @@
-use native.Mathlib.Omega.{arith}
 use mathlib.Core.Path.{ap}
 use Rattle.definition.specs.Answer.{got}
 use Rattle.definition.specs.Reader.{optional_semicolon}
 use Rattle.table.proofs.Branch.{by}
 use Rattle.lemmas.proofs.Branch.{eq_yes, eq_no}
 use Rattle.table.proofs.Shown.{got!, got-at}
-use Rattle.table.proofs.Steps.{there}
 use mathlib.Core.Path.{sym, ◌∙◌}
 use Rattle.declaration_entries.proofs.optional_semicolon.Goals as goal
-
-pub overflow_add-at : goal.overflow_add-at
-overflow_add-at c = omega (arith, there c.kind_at.ensures c.if-kind_at-eq-SEMICOLON.true)
 
 pub returns-then-kind_at-eq-SEMICOLON : goal.returns-then-kind_at-eq-SEMICOLON
 unfolding optional_semicolon

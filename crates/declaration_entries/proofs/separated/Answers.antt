@@ -2,20 +2,17 @@ use native.Mathlib.Omega.{arith}
 use mathlib.Core.Path.{refl}
 use Rattle.definition.specs.Reader.{separated}
 use Rattle.table.proofs.Shown.{got!, got-at, no! }
-use Rattle.table.proofs.Steps.{there, is+, is-}
+use Rattle.table.proofs.Steps.{is+, is-}
 use Rattle.declaration_entries.proofs.separated.Goals as goal
 
-pub overflow_add-at : goal.overflow_add-at
-overflow_add-at c = omega (arith, there c.kind_at-kind.ensures c.if-kind-eq-SEMICOLON.true)
-
-pub returns-then-kind-eq-SEMICOLON : goal.returns-then-kind-eq-SEMICOLON
+pub returns-in-70 : goal.returns-in-70
 unfolding separated
-returns-then-kind-eq-SEMICOLON c = record { with = λ ns m w d v. record { run = λ t h. is+ _ _ c.kind_at-kind.ensures c.if-kind-eq-SEMICOLON.true (got-at c.moved.ensures h) } }
+returns-in-70 c = record { with = λ ns m w d v. record { run = λ t h. is+ _ _ c.kind_at.ensures c.in-70.is (got-at c.moved.ensures h) } }
 
-pub returns-then-kind-eq-END : goal.returns-then-kind-eq-END
+pub returns-in-0 : goal.returns-in-0
 unfolding separated
-returns-then-kind-eq-END c = record { with = λ ns m w d v. record { run = λ t h. is- _ _ c.kind_at-kind.ensures c.if-kind-eq-SEMICOLON.false (is+ _ _ c.kind_at-kind.ensures c.if-kind-eq-END.true (got! h)) } }
+returns-in-0 c = record { with = λ ns m w d v. record { run = λ t h. is- _ _ c.kind_at.ensures (λ e. omega arith) (is+ _ _ c.kind_at.ensures c.in-0.is (got! h)) } }
 
-pub returns : goal.returns
+pub returns-in_default : goal.returns-in_default
 unfolding separated
-returns c = record { with = λ ns m w d v. record { run = λ t h. is- _ _ c.kind_at-kind.ensures c.if-kind-eq-SEMICOLON.false (is- _ _ c.kind_at-kind.ensures c.if-kind-eq-END.false (no! h refl)) } }
+returns-in_default c = record { with = λ ns m w d v. record { run = λ t h. is- _ _ c.kind_at.ensures (λ e. omega arith) (is- _ _ c.kind_at.ensures (λ e. omega arith) (no! h refl)) } }

@@ -1,11 +1,11 @@
 use borrow.Author.Rules.{rules}
 use native.Mathlib.Omega.{arith}
 use native.Mathlib.Nat.{lt_of_lt_of_le}
-use mathlib.Core.Path.{sym, ap, ◌∙◌}
+use mathlib.Core.Path.{refl, sym, ap, ◌∙◌}
 use Rattle.constants.specs.Reading.{tokens}
-use Rattle.table.specs.Reply.{move}
+use Rattle.table.specs.Reply.{reply_alone}
 use Rattle.table.proofs.Rounds.{starts, starts-at, turn}
-use Rattle.table.proofs.Shown.{got!, call, fail, held_at, held_on}
+use Rattle.table.proofs.Shown.{got!, call, fail, held_at, held_on, next, exit, held_next}
 use Rattle.table.proofs.Steps.{there, is+, is-}
 use Rattle.definition.specs.Token.{left}
 use Rattle.definition.specs.Reader.{declarations_from}
@@ -44,21 +44,21 @@ loop-m-preserved-then-kind-eq-SEMICOLON c = record {
       (starts-at c.moved-here.ensures h₁ (lt_of_lt_of_le (fewer _ _ c.moved-here.ensures (omega arith) (there c.kind_at-kind.ensures c.if-kind-eq-SEMICOLON.true)) l))));
 }
 
-pub declaration-r-requires : goal.declaration-r-requires
-declaration-r-requires c = record { held = c.loop-m.invariant.held; readable = c.requires.readable }
+pub declaration-requires : goal.declaration-requires
+declaration-requires c = record { held = c.loop-m.invariant.held; readable = c.requires.readable }
 
-pub shape_of-w-in_default : goal.shape_of-w-in_default
-shape_of-w-in_default c = c.w-1.given ∙ (c.loop-m.invariant.held.long.words ∙ sym c.requires.held.long.words)
+pub shape_of-w-in_err-e : goal.shape_of-w-in_err-e
+shape_of-w-in_err-e c = c.w-1.given ∙ (c.loop-m.invariant.held.long.words ∙ sym c.requires.held.long.words)
 
-pub shape_of-d-in_default : goal.shape_of-d-in_default
-shape_of-d-in_default c = c.d-1.given ∙ (c.loop-m.invariant.held.long.wides ∙ sym c.requires.held.long.wides)
+pub shape_of-d-in_err-e : goal.shape_of-d-in_err-e
+shape_of-d-in_err-e c = c.d-1.given ∙ (c.loop-m.invariant.held.long.wides ∙ sym c.requires.held.long.wides)
 
-pub shape_of-v-in_default : goal.shape_of-v-in_default
-shape_of-v-in_default c = c.v-1.given ∙ (c.loop-m.invariant.held.long.signeds ∙ sym c.requires.held.long.signeds)
+pub shape_of-v-in_err-e : goal.shape_of-v-in_err-e
+shape_of-v-in_err-e c = c.v-1.given ∙ (c.loop-m.invariant.held.long.signeds ∙ sym c.requires.held.long.signeds)
 
-pub returns-in_default : goal.returns-in_default
+pub returns-in_err-e : goal.returns-in_err-e
 unfolding declarations_from
-returns-in_default c = record { run = λ t h. turn (c.loop-m.invariant.going _ (enough _) t h) (λ t₁ f l h₁. is- _ _ c.kind_at-kind.ensures c.if-kind-eq-END.false (is- _ _ c.kind_at-kind.ensures c.if-kind-eq-SEMICOLON.false (fail _ (c.declaration-r.ensures.run t₁ h₁) (ap move c.in_default.is)))) }
+returns-in_err-e c = record { run = λ t h. turn (c.loop-m.invariant.going _ (enough _) t h) (λ t₁ f l h₁. is- _ _ c.kind_at-kind.ensures c.if-kind-eq-END.false (is- _ _ c.kind_at-kind.ensures c.if-kind-eq-SEMICOLON.false (exit reply_alone _ (c.in_err-e.ensures.run t₁ h₁) c.from_residual.ensures.1 refl))) }
 
 pub shape_of-w-in_default-s : goal.shape_of-w-in_default-s
 shape_of-w-in_default-s c = c.w-1.given ∙ (c.loop-m.invariant.held.long.words ∙ sym c.requires.held.long.words)
@@ -69,21 +69,21 @@ shape_of-d-in_default-s c = c.d-1.given ∙ (c.loop-m.invariant.held.long.wides 
 pub shape_of-v-in_default-s : goal.shape_of-v-in_default-s
 shape_of-v-in_default-s c = c.v-1.given ∙ (c.loop-m.invariant.held.long.signeds ∙ sym c.requires.held.long.signeds)
 
-pub returns-in_default-s : goal.returns-in_default-s
+pub returns-in_err-f : goal.returns-in_err-f
 unfolding declarations_from
-returns-in_default-s c = record {
+returns-in_err-f c = record {
   run = λ t h. turn (c.loop-m.invariant.going _ (enough _) t h) (λ t₁ f l h₁. is- _ _ c.kind_at-kind.ensures c.if-kind-eq-END.false (is- _ _ c.kind_at-kind.ensures c.if-kind-eq-SEMICOLON.false
-      (call _ (c.declaration-r.ensures.run t₁ h₁) (ap move c.in-To.is) (λ t₂ h₂. fail _ ((c.separated-s.ensures.with c.args.numbers.now (model c.args.m) _ _ _).run t₂ h₂) (ap move c.in_default-s.is)))));
+      (next _ (c.in_ok-e.ensures.run t₁ h₁) (λ t₂ h₂. exit reply_alone _ ((c.in_err-f.ensures.with c.args.numbers.now (model c.args.m) _ _ _).run t₂ h₂) c.from_residual-in_err-f.ensures.1 refl))));
 }
 
 pub loop-m-smaller : goal.loop-m-smaller
-loop-m-smaller c = fewer-past (took c.args.numbers.now (model c.args.m) c.declaration-r.ensures c.loop-m.invariant.held (ap move c.in-To.is) c.separated-s.ensures (ap move c.in-To-s.is) c.kind_at-kind.ensures c.if-kind-eq-END.false) (here-still c.kind_at-kind.ensures c.if-kind-eq-END.false)
+loop-m-smaller c = fewer-past (took c.args.numbers.now (model c.args.m) c.in_ok-e.ensures c.loop-m.invariant.held refl c.in_ok-f.ensures refl c.kind_at-kind.ensures c.if-kind-eq-END.false) (here-still c.kind_at-kind.ensures c.if-kind-eq-END.false)
 
 pub loop-m-preserved : goal.loop-m-preserved
 unfolding declarations_from
-loop-m-preserved c = let past = took c.args.numbers.now (model c.args.m) c.declaration-r.ensures c.loop-m.invariant.held (ap move c.in-To.is) c.separated-s.ensures (ap move c.in-To-s.is) c.kind_at-kind.ensures c.if-kind-eq-END.false in record {
-  held = held_on (c.separated-s.ensures.with c.args.numbers.now (model c.args.m) _ _ _) (held_on c.declaration-r.ensures c.loop-m.invariant.held (ap move c.in-To.is)) (ap move c.in-To-s.is);
+loop-m-preserved c = let past = took c.args.numbers.now (model c.args.m) c.in_ok-e.ensures c.loop-m.invariant.held refl c.in_ok-f.ensures refl c.kind_at-kind.ensures c.if-kind-eq-END.false in record {
+  held = held_on (c.in_ok-f.ensures.with c.args.numbers.now (model c.args.m) _ _ _) (held_next c.in_ok-e.ensures c.loop-m.invariant.held) refl;
   going = λ n p t h. turn (c.loop-m.invariant.going n p t h) (λ t₁ f l h₁. is- _ _ c.kind_at-kind.ensures c.if-kind-eq-END.false (is- _ _ c.kind_at-kind.ensures c.if-kind-eq-SEMICOLON.false
-      (call _ (c.declaration-r.ensures.run t₁ h₁) (ap move c.in-To.is) (λ t₂ h₂. call _ ((c.separated-s.ensures.with c.args.numbers.now (model c.args.m) _ _ _).run t₂ h₂) (ap move c.in-To-s.is)
+      (next _ (c.in_ok-e.ensures.run t₁ h₁) (λ t₂ h₂. next _ ((c.in_ok-f.ensures.with c.args.numbers.now (model c.args.m) _ _ _).run t₂ h₂)
       (λ t₃ h₃. starts h₃ (lt_of_lt_of_le (fewer-past past (here-still c.kind_at-kind.ensures c.if-kind-eq-END.false)) l))))));
 }

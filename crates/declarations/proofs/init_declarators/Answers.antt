@@ -1,11 +1,11 @@
 use borrow.Author.Rules.{rules}
 use native.Mathlib.Omega.{arith}
 use native.Mathlib.Nat.{lt_of_lt_of_le}
-use mathlib.Core.Path.{sym, ap, ◌∙◌}
+use mathlib.Core.Path.{refl, sym, ap, ◌∙◌}
 use Rattle.constants.specs.Reading.{tokens}
-use Rattle.table.specs.Reply.{move}
+use Rattle.table.specs.Reply.{reply_alone}
 use Rattle.table.proofs.Rounds.{starts-at, turn}
-use Rattle.table.proofs.Shown.{got!, call, fail, held_at, held_on}
+use Rattle.table.proofs.Shown.{got!, call, fail, held_at, held_on, next, exit, held_next}
 use Rattle.table.proofs.Steps.{there, is+, is-}
 use Rattle.definition.specs.Token.{left}
 use Rattle.definition.specs.Reader.{init_declarators}
@@ -20,21 +20,21 @@ use Rattle.declarations.proofs.init_declarators.Goals as goal
 pub loop-e-init : goal.loop-e-init
 loop-e-init c = begin c.requires.held
 
-pub init_declarator-r-requires : goal.init_declarator-r-requires
-init_declarator-r-requires c = record { held = c.loop-e.invariant.held; readable = c.requires.readable }
+pub init_declarator-requires : goal.init_declarator-requires
+init_declarator-requires c = record { held = c.loop-e.invariant.held; readable = c.requires.readable }
 
-pub shape_of-w-in_default : goal.shape_of-w-in_default
-shape_of-w-in_default c = c.w-1.given ∙ (c.loop-e.invariant.held.long.words ∙ sym c.requires.held.long.words)
+pub shape_of-w-in_err-e : goal.shape_of-w-in_err-e
+shape_of-w-in_err-e c = c.w-1.given ∙ (c.loop-e.invariant.held.long.words ∙ sym c.requires.held.long.words)
 
-pub shape_of-d-in_default : goal.shape_of-d-in_default
-shape_of-d-in_default c = c.d-1.given ∙ (c.loop-e.invariant.held.long.wides ∙ sym c.requires.held.long.wides)
+pub shape_of-d-in_err-e : goal.shape_of-d-in_err-e
+shape_of-d-in_err-e c = c.d-1.given ∙ (c.loop-e.invariant.held.long.wides ∙ sym c.requires.held.long.wides)
 
-pub shape_of-v-in_default : goal.shape_of-v-in_default
-shape_of-v-in_default c = c.v-1.given ∙ (c.loop-e.invariant.held.long.signeds ∙ sym c.requires.held.long.signeds)
+pub shape_of-v-in_err-e : goal.shape_of-v-in_err-e
+shape_of-v-in_err-e c = c.v-1.given ∙ (c.loop-e.invariant.held.long.signeds ∙ sym c.requires.held.long.signeds)
 
-pub returns-in_default : goal.returns-in_default
+pub returns-in_err-e : goal.returns-in_err-e
 unfolding init_declarators
-returns-in_default c = record { rounds = λ n p. record { run = λ t₁ h. turn (c.loop-e.invariant.going n p t₁ h) (λ t₂ f l h₂. fail _ (c.init_declarator-r.ensures.run t₂ h₂) (ap move c.in_default.is)) } }
+returns-in_err-e c = record { rounds = λ n p. record { run = λ t₁ h. turn (c.loop-e.invariant.going n p t₁ h) (λ t₂ f l h₂. exit reply_alone _ (c.in_err-e.ensures.run t₂ h₂) c.from_residual.ensures.1 refl) } }
 
 pub shape_of-w-then-kind_at-ne-COMMA : goal.shape_of-w-then-kind_at-ne-COMMA
 shape_of-w-then-kind_at-ne-COMMA c = c.w-1.given ∙ (c.loop-e.invariant.held.long.words ∙ sym c.requires.held.long.words)
@@ -47,18 +47,18 @@ shape_of-v-then-kind_at-ne-COMMA c = c.v-1.given ∙ (c.loop-e.invariant.held.lo
 
 pub returns-then-kind_at-ne-COMMA : goal.returns-then-kind_at-ne-COMMA
 unfolding init_declarators
-returns-then-kind_at-ne-COMMA c = record { rounds = λ n p. record { run = λ t₁ h. turn (c.loop-e.invariant.going n p t₁ h) (λ t₂ f l h₂. call _ (c.init_declarator-r.ensures.run t₂ h₂) (ap move c.in-To.is) (λ t₃ h₃. is- _ _ c.kind_at.ensures c.if-kind_at-ne-COMMA.true (got! h₃))) } }
+returns-then-kind_at-ne-COMMA c = record { rounds = λ n p. record { run = λ t₁ h. turn (c.loop-e.invariant.going n p t₁ h) (λ t₂ f l h₂. next _ (c.in_ok-e.ensures.run t₂ h₂) (λ t₃ h₃. is- _ _ c.kind_at.ensures c.if-kind_at-ne-COMMA.true (got! h₃))) } }
 
 pub overflow_add-i : goal.overflow_add-i
 overflow_add-i c = omega (arith, c.requires.readable.few, there c.kind_at.ensures c.if-kind_at-ne-COMMA.false)
 
 pub loop-e-smaller : goal.loop-e-smaller
-loop-e-smaller c = fewer _ _ c.moved-here.ensures (moves-on c.init_declarator-r.ensures c.loop-e.invariant.held (ap move c.in-To.is) (init_declarator-on _ _ _ _)) (there c.kind_at.ensures c.if-kind_at-ne-COMMA.false)
+loop-e-smaller c = fewer _ _ c.moved-here.ensures (moves-on c.in_ok-e.ensures c.loop-e.invariant.held refl (init_declarator-on _ _ _ _)) (there c.kind_at.ensures c.if-kind_at-ne-COMMA.false)
 
 pub loop-e-preserved : goal.loop-e-preserved
 unfolding init_declarators
 loop-e-preserved c = record {
-  held = held_at c.moved-here.ensures (held_on c.init_declarator-r.ensures c.loop-e.invariant.held (ap move c.in-To.is));
-  going = λ n p t₁ h. turn (c.loop-e.invariant.going n p t₁ h) (λ t₂ f l h₂. call _ (c.init_declarator-r.ensures.run t₂ h₂) (ap move c.in-To.is) (λ t₃ h₃. is+ _ _ c.kind_at.ensures c.if-kind_at-ne-COMMA.false
-      (starts-at c.moved-here.ensures h₃ (lt_of_lt_of_le (fewer _ _ c.moved-here.ensures (moves-on c.init_declarator-r.ensures c.loop-e.invariant.held (ap move c.in-To.is) (init_declarator-on _ _ _ _)) (there c.kind_at.ensures c.if-kind_at-ne-COMMA.false)) l))));
+  held = held_at c.moved-here.ensures (held_next c.in_ok-e.ensures c.loop-e.invariant.held);
+  going = λ n p t₁ h. turn (c.loop-e.invariant.going n p t₁ h) (λ t₂ f l h₂. next _ (c.in_ok-e.ensures.run t₂ h₂) (λ t₃ h₃. is+ _ _ c.kind_at.ensures c.if-kind_at-ne-COMMA.false
+      (starts-at c.moved-here.ensures h₃ (lt_of_lt_of_le (fewer _ _ c.moved-here.ensures (moves-on c.in_ok-e.ensures c.loop-e.invariant.held refl (init_declarator-on _ _ _ _)) (there c.kind_at.ensures c.if-kind_at-ne-COMMA.false)) l))));
 }

@@ -5,7 +5,7 @@ use borrow.Author.Tests.{not-true, not-false}
 use Rattle.definition.specs.Kind.{is_name}
 use Rattle.definition.specs.Types.{typedef_row}
 use Rattle.definition.specs.Specifier.{builtin}
-use Rattle.named_rows.specs.Finds.{found}
+use Rattle.lemmas.specs.Options.{option}
 use Rattle.model.specs.Meaning.{model}
 use Rattle.words.specs.Meaning.{known}
 use Rattle.std.specs.Prelude.{is_some}
@@ -34,15 +34,15 @@ overflow_add-at-2 c = omega (arith, there c.kind_at.ensures c.if-kind_at-ne-OPEN
 pub name_at-requires : goal.name_at-requires
 name_at-requires c = c.requires.names_fit.fit _ (ap is_name (sym c.kind_at-kind.ensures.is) ∙ (sym c.is_name.ensures ∙ not-false _ c.if-not-is_name.false-raw))
 
-pub returns-in-At : goal.returns-in-At
-returns-in-At c = record {
+pub returns-in-Some : goal.returns-in-Some
+returns-in-Some c = record {
   of = λ t w x h. sym (of-typedef _ _ _ (of-kind c.kind_at.ensures c.if-kind_at-ne-OPEN_PAREN.false) (no_kind c.kind_at-kind.ensures c.if-kind-eq-STAR.false) (no_kind c.kind_at-kind.ensures c.if-kind-eq-OPEN_PAREN.false) (ap is_name (sym c.kind_at-kind.ensures.is) ∙ (sym c.is_name.ensures ∙ not-false _ c.if-not-is_name.false-raw))
-      (ap (λ z. typedef_row t z) (sym c.name_at.ensures.is) ∙ (sym (c.typedef_row-f.ensures.of t w x h) ∙ ap found c.in-At.is)));
+      (ap (λ z. typedef_row t z) (sym c.name_at.ensures.is) ∙ (sym (c.typedef_row.ensures.of t w x h) ∙ ap option c.in-Some.is)));
 }
 
 pub returns : goal.returns
 returns c = record {
   of = λ t w x h. of-known _ _ _ (of-kind c.kind_at.ensures c.if-kind_at-ne-OPEN_PAREN.false) (no_kind c.kind_at-kind.ensures c.if-kind-eq-STAR.false) (no_kind c.kind_at-kind.ensures c.if-kind-eq-OPEN_PAREN.false) (ap is_name (sym c.kind_at-kind.ensures.is) ∙ (sym c.is_name.ensures ∙ not-false _ c.if-not-is_name.false-raw))
-      (ap (λ z. typedef_row t z) (sym c.name_at.ensures.is) ∙ (sym (c.typedef_row-f.ensures.of t w x h) ∙ ap found c.in_default.is))
+      (ap (λ z. typedef_row t z) (sym c.name_at.ensures.is) ∙ (sym (c.typedef_row.ensures.of t w x h) ∙ ap option c.in_default.is))
       (ap is_some (sym (c.builtin.ensures ∙ ap (λ z. known (builtin (model c.args.m) z)) c.kind_at-kind.ensures.is)) ∙ c.is_none.ensures);
 }

@@ -1,44 +1,40 @@
-use borrow.Author.Rules.{rules}
-use mathlib.Core.Path.{sym, ap, ◌∙◌}
+use mathlib.Core.Path.{refl, sym, ◌∙◌}
 use Rattle.definition.specs.Row.{function}
 use Rattle.definition.specs.Types.{equal_row}
 use Rattle.definition.specs.Declarator.{add_function}
-use Rattle.table.specs.Reply.{step}
+use Rattle.table.specs.Reply.{reply}
 use Rattle.table.proofs.Branch.{some!, none! }
-use Rattle.table.proofs.Shown.{call, fail, got!, held_on}
-use Rattle.named_rows.specs.Finds.{found}
+use Rattle.table.proofs.Shown.{got!, next, exit, held_next}
+use Rattle.lemmas.specs.Options.{option}
 use Rattle.derived_types.specs.Derives.{span}
-use Rattle.derived_types.proofs.Derived.{first-low, near_equal}
+use Rattle.derived_types.proofs.Derived.{near_equal}
 use Rattle.derived_types.proofs.add_function.Goals as goal
 
-pub equal_row-f-requires : goal.equal_row-f-requires
-equal_row-f-requires c = (c.requires.room, first-low _ _ _ _ c.function_row.ensures c.nearest-near.ensures.low)
-
-pub returns-in-At : goal.returns-in-At
+pub returns-in-Some : goal.returns-in-Some
 unfolding add_function
-returns-in-At c = record {
-  run = λ t h. some! (equal_row t (function (found c.args.returns) c.args.varargs (span c.args.first c.args.count)) 0 t.rows) _ _
-      (sym (near_equal t (found c.args.returns) c.args.varargs c.args.count h.words.fits.parameters c.nearest-near.ensures 0 t.rows) ∙ (sym (c.equal_row-f.ensures.of t _ h c.function_row.ensures) ∙ ap found c.in-At.is))
+returns-in-Some c = record {
+  run = λ t h. some! (equal_row t (function (option c.args.returns) c.args.varargs (span c.args.first c.args.count)) 0 t.rows) _ _
+      (sym (near_equal t (option c.args.returns) c.args.varargs c.args.count c.args.first c.min.ensures h.words.fits.parameters 0 t.rows) ∙ (sym (c.in-Some.ensures.of t _ h c.function_row-like.ensures)))
       (got! ((c.own_parameters.ensures.with _ _).run t h));
 }
 
-pub returns-in_default-r : goal.returns-in_default-r
+pub returns-in_err-e : goal.returns-in_err-e
 unfolding add_function
-returns-in_default-r c = record {
-  run = λ t h. none! (equal_row t (function (found c.args.returns) c.args.varargs (span c.args.first c.args.count)) 0 t.rows) _ _
-      (sym (near_equal t (found c.args.returns) c.args.varargs c.args.count h.words.fits.parameters c.nearest-near.ensures 0 t.rows) ∙ (sym (c.equal_row-f.ensures.of t _ h c.function_row.ensures) ∙ ap found c.in_default.is))
-      (fail _ ((c.push_row-r.ensures.of (function (found c.args.returns) c.args.varargs (span c.args.first c.args.count)) c.function_row-2.ensures).run t h) (ap step c.in_default-r.is));
+returns-in_err-e c = record {
+  run = λ t h. none! (equal_row t (function (option c.args.returns) c.args.varargs (span c.args.first c.args.count)) 0 t.rows) _ _
+      (sym (near_equal t (option c.args.returns) c.args.varargs c.args.count c.args.first c.min.ensures h.words.fits.parameters 0 t.rows) ∙ (sym (c.in_default.ensures.of t _ h c.function_row-like.ensures)))
+      (exit reply _ ((c.in_err-e.ensures.of (function (option c.args.returns) c.args.varargs (span c.args.first c.args.count)) c.function_row.ensures).run t h) c.from_residual.ensures.1 refl);
 }
 
 pub own_parameters-requires-2 : goal.own_parameters-requires-2
 own_parameters-requires-2 c =
-    let g = held_on (c.push_row-r.ensures.of (function (found c.args.returns) c.args.varargs (span c.args.first c.args.count)) c.function_row-2.ensures) c.requires (ap step c.in-Done.is) in
+    let g = held_next (c.in_ok-e.ensures.of (function (option c.args.returns) c.args.varargs (span c.args.first c.args.count)) c.function_row.ensures) c.requires in
     (g.long.words, g.room)
 
 pub returns : goal.returns
 unfolding add_function
 returns c = record {
-  run = λ t h. none! (equal_row t (function (found c.args.returns) c.args.varargs (span c.args.first c.args.count)) 0 t.rows) _ _
-      (sym (near_equal t (found c.args.returns) c.args.varargs c.args.count h.words.fits.parameters c.nearest-near.ensures 0 t.rows) ∙ (sym (c.equal_row-f.ensures.of t _ h c.function_row.ensures) ∙ ap found c.in_default.is))
-      (call _ ((c.push_row-r.ensures.of (function (found c.args.returns) c.args.varargs (span c.args.first c.args.count)) c.function_row-2.ensures).run t h) (ap step c.in-Done.is) (λ t₁ h₁. got! ((c.own_parameters-2.ensures.with _ _).run t₁ h₁)));
+  run = λ t h. none! (equal_row t (function (option c.args.returns) c.args.varargs (span c.args.first c.args.count)) 0 t.rows) _ _
+      (sym (near_equal t (option c.args.returns) c.args.varargs c.args.count c.args.first c.min.ensures h.words.fits.parameters 0 t.rows) ∙ (sym (c.in_default.ensures.of t _ h c.function_row-like.ensures)))
+      (next _ ((c.in_ok-e.ensures.of (function (option c.args.returns) c.args.varargs (span c.args.first c.args.count)) c.function_row.ensures).run t h) (λ t₁ h₁. got! ((c.own_parameters-2.ensures.with _ _).run t₁ h₁)));
 }

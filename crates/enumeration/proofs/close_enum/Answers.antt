@@ -1,22 +1,22 @@
 use borrow.Author.Rules.{rules}
-use mathlib.Core.Path.{ap}
+use mathlib.Core.Path.{refl, ap}
 use Rattle.definition.specs.Enumeration.{close_enum, define_enum}
-use Rattle.table.specs.Reply.{step}
+use Rattle.table.specs.Reply.{reply}
 use Rattle.table.proofs.Branch.{eq+, eq-}
-use Rattle.table.proofs.Shown.{got!, call, fail, held_on}
+use Rattle.table.proofs.Shown.{got!, call, fail, held_on, next, exit, held_next}
 use Rattle.enumeration.proofs.close_enum.Goals as goal
 
 pub returns-then-name-eq-NO_NAME : goal.returns-then-name-eq-NO_NAME
 unfolding close_enum
 returns-then-name-eq-NO_NAME c = record { run = λ t h. eq+ _ _ _ _ c.if-name-eq-NO_NAME.true (c.add_enum.ensures.run t h) }
 
-pub returns-in_default : goal.returns-in_default
+pub returns-in_err-e : goal.returns-in_err-e
 unfolding close_enum
-returns-in_default c = record { run = λ t h. eq- _ _ _ _ c.if-name-eq-NO_NAME.false (fail _ (c.enum_tag_row-r.ensures.run t h) (ap step c.in_default.is)) }
+returns-in_err-e c = record { run = λ t h. eq- _ _ _ _ c.if-name-eq-NO_NAME.false (exit reply _ (c.in_err-e.ensures.run t h) c.from_residual.ensures.1 refl) }
 
 pub define_enum-requires : goal.define_enum-requires
-define_enum-requires c = held_on c.enum_tag_row-r.ensures c.requires.held (ap step c.in-Done.is)
+define_enum-requires c = held_next c.in_ok-e.ensures c.requires.held
 
 pub returns : goal.returns
 unfolding close_enum define_enum
-returns c = record { run = λ t h. eq- _ _ _ _ c.if-name-eq-NO_NAME.false (call _ (c.enum_tag_row-r.ensures.run t h) (ap step c.in-Done.is) (λ t₁ h₁. got! (c.define_enum.ensures.run t₁ h₁))) }
+returns c = record { run = λ t h. eq- _ _ _ _ c.if-name-eq-NO_NAME.false (next _ (c.in_ok-e.ensures.run t h) (λ t₁ h₁. got! (c.define_enum.ensures.run t₁ h₁))) }

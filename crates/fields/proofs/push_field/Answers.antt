@@ -1,15 +1,15 @@
-use mathlib.Core.Path.{refl, ap}
+use mathlib.Core.Path.{refl}
 use Rattle.definition.specs.Table.{mark_of}
-use Rattle.table.specs.Reply.{step}
-use Rattle.table.proofs.Shown.{call, refuse, got! }
+use Rattle.table.specs.Reply.{reply_alone}
+use Rattle.table.proofs.Shown.{got!, next, exit}
 use Rattle.fields.specs.Fields.{width_in}
 use Rattle.fields.proofs.Widths.{width-number}
 use Rattle.fields.proofs.push_field.Goals as goal
 
-pub returns-in-Done : goal.returns-in-Done
+pub returns : goal.returns
 unfolding mark_of
-returns-in-Done c = record { run = λ t h. call _ ((c.push_member-r.ensures.of (width_in c.args.width) (width-number c.args.width)).run t h) (ap step c.in-Done.is) (λ t₁ h₁. got! h₁) }
+returns c = record { run = λ t h. next _ ((c.in_ok-e.ensures.of (width_in c.args.width) (width-number c.args.width)).run t h) (λ t₁ h₁. got! h₁) }
 
-pub returns-in-Refused : goal.returns-in-Refused
+pub returns-in_err-e : goal.returns-in_err-e
 unfolding mark_of
-returns-in-Refused c = record { run = λ t h. refuse _ ((c.push_member-r.ensures.of (width_in c.args.width) (width-number c.args.width)).run t h) (ap step c.in-Refused.is) refl }
+returns-in_err-e c = record { run = λ t h. exit reply_alone _ ((c.in_err-e.ensures.of (width_in c.args.width) (width-number c.args.width)).run t h) c.from_residual.ensures.1 refl }

@@ -1,12 +1,11 @@
 use Prim.Native.Nat.{ℕ}
 use borrow.Author.Rules.{rules}
 use native.Mathlib.Omega.{arith}
-use Rattle.table.proofs.Shown.{held_at, step-on}
+use Rattle.table.proofs.Shown.{held_at, step-on, next, exit, held_next}
 use Rattle.table.proofs.Steps.{there, is+, is-}
 use Rattle.parser.specs.Pieces.{after_type}
 use mathlib.Core.Path.{refl, ap}
 use Rattle.table.proofs.Shown.{call, refuse, held_on}
-use Rattle.table.specs.Reply.{move}
 use Rattle.parser.proofs.Composites.{from_first}
 use mathlib.Core.Path.{refl}
 use Rattle.table.proofs.Branch.{by, yes!, nay! }
@@ -42,7 +41,6 @@ use Prim.Native.Nat.{ℕ, ◌<◌}
 use Prim.Native.Nat.{◌+◌, ◌*◌}
 use Rattle.table.proofs.Branch.{yes!, nay! }
 use Rattle.table.proofs.Shown.{call, refuse, held, held_at, held_on, step-on}
-use Rattle.table.specs.Reply.{step}
 use Prim.Native.Nat.{◌+◌}
 use Rattle.table.specs.Held.{state, moved_to}
 use Rattle.definition.specs.Declarator.{parameters_from}
@@ -119,17 +117,17 @@ after_type-returns t c = record { rounds = λ f p. record { run = λ t₁ h. is-
 pub body-overflow_cast-first : goal.body-overflow_cast-first
 body-overflow_cast-first t c = omega (arith, c.requires.held.room.members)
 
-pub body-member_list-r-requires : goal.body-member_list-r-requires
-body-member_list-r-requires t c = (omega (arith, c.decreases), (c.requires.held, (c.requires.readable, c.requires.held.room.members)))
+pub body-member_list-requires : goal.body-member_list-requires
+body-member_list-requires t c = (omega (arith, c.decreases), (c.requires.held, (c.requires.readable, c.requires.held.room.members)))
 
 pub body-close_body-requires : goal.body-close_body-requires
-body-close_body-requires t c = let h = held_on c.member_list-r.ensures c.requires.held (ap move c.in-To.is) in (h.long.words, h.long.wides, h.room)
+body-close_body-requires t c = let h = held_next c.in_ok-e.ensures c.requires.held in (h.long.words, h.long.wides, h.room)
 
 pub body-returns-in-To : goal.body-returns-in-To
-body-returns-in-To t c = record { run = λ t₁ h. from_first _ _ _ _ _ _ h.counts.members (call _ (c.member_list-r.ensures.run t₁ h) (ap move c.in-To.is) (λ t₂ h₂. (c.close_body.ensures.with _).run t₂ h₂)) }
+body-returns-in-To t c = record { run = λ t₁ h. from_first _ _ _ _ _ _ h.counts.members (next _ (c.in_ok-e.ensures.run t₁ h) (λ t₂ h₂. (c.close_body.ensures.with _).run t₂ h₂)) }
 
 pub body-returns-in-Refused : goal.body-returns-in-Refused
-body-returns-in-Refused t c = record { run = λ t₁ h. from_first _ _ _ _ _ _ h.counts.members (refuse _ (c.member_list-r.ensures.run t₁ h) (ap move c.in-Refused.is) refl) }
+body-returns-in-Refused t c = record { run = λ t₁ h. from_first _ _ _ _ _ _ h.counts.members (exit REPLY _ (c.in_err-e.ensures.run t₁ h) c.from_residual.ensures.1 refl) }
 
 pub composite-returns-then-room-eq0 : goal.composite-returns-then-room-eq0
 composite-returns-then-room-eq0 t c = record { run = λ t₁ h. by (no_level _ _ _ _ c.if-room-eq0.true) (no! h refl) }
@@ -166,29 +164,29 @@ declarator-returns-in_default t c = stars-stop _ _ _ _ _ _ _ c.requires.starting
 pub declarator-overflow_sub-room : goal.declarator-overflow_sub-room
 declarator-overflow_sub-room t c = omega (arith, c.if-room-eq0.false)
 
-pub declarator-direct-r-requires : goal.declarator-direct-r-requires
-declarator-direct-r-requires t c = (omega (arith, c.decreases, c.if-room-eq0.false), (stars-held c.stars-t.ensures c.in-Done.is c.requires.held, (c.requires.readable, stars_starting c.requires.starting c.stars-t.ensures)))
+pub declarator-direct-requires : goal.declarator-direct-requires
+declarator-direct-requires t c = (omega (arith, c.decreases, c.if-room-eq0.false), (stars-held c.stars-t.ensures c.in-Done.is c.requires.held, (c.requires.readable, stars_starting c.requires.starting c.stars-t.ensures)))
 
 pub declarator-returns-then-all-used : goal.declarator-returns-then-all-used
-declarator-returns-then-all-used t c = unstarred _ _ _ _ _ _ _ c.requires.starting c.if-room-eq0.false c.stars-t.ensures c.in-Done.is c.direct-r.ensures c.if-all-used.true
+declarator-returns-then-all-used t c = unstarred _ _ _ _ _ _ _ c.requires.starting c.if-room-eq0.false c.stars-t.ensures c.in-Done.is c.in_ok-f.ensures c.if-all-used.true
 
 pub declarator-returns-in_default-answer : goal.declarator-returns-in_default-answer
-declarator-returns-in_default-answer t c = direct-stop _ _ _ _ _ _ _ c.requires.starting c.if-room-eq0.false c.stars-t.ensures c.in-Done.is c.direct-r.ensures c.in_default-answer.is
+declarator-returns-in_default-answer t c = direct-stop _ _ _ _ _ _ _ c.requires.starting c.if-room-eq0.false c.stars-t.ensures c.in-Done.is c.in_ok-f.ensures c.in_default-answer.is
 
 pub declarator-overflow_sub-all : goal.declarator-overflow_sub-all
 declarator-overflow_sub-all t c = omega (arith, c.stars-t.ensures.holds.held)
 
 pub declarator-release_stars-requires : goal.declarator-release_stars-requires
-declarator-release_stars-requires t c = stars_wait _ _ _ _ _ _ _ c.requires.starting c.if-room-eq0.false c.stars-t.ensures c.in-Done.is c.direct-r.ensures c.in-Done-answer.is
+declarator-release_stars-requires t c = stars_wait _ _ _ _ _ _ _ c.requires.starting c.if-room-eq0.false c.stars-t.ensures c.in-Done.is c.in_ok-f.ensures c.in-Done-answer.is
 
 pub declarator-returns : goal.declarator-returns
-declarator-returns t c = direct-done _ _ _ _ _ _ _ c.requires.starting c.if-room-eq0.false c.stars-t.ensures c.in-Done.is c.direct-r.ensures c.in-Done-answer.is _ c.release_stars.ensures c.in-Done-answer.is c.new-2.ensures
+declarator-returns t c = direct-done _ _ _ _ _ _ _ c.requires.starting c.if-room-eq0.false c.stars-t.ensures c.in-Done.is c.in_ok-f.ensures c.in-Done-answer.is _ c.release_stars.ensures c.in-Done-answer.is c.new-2.ensures
 
 pub declarators-loop-e-init : goal.declarators-loop-e-init
 declarators-loop-e-init t c = begin c.requires.held
 
-pub declarators-one_member-r-requires : goal.declarators-one_member-r-requires
-declarators-one_member-r-requires t c = (omega (arith, c.decreases), (c.loop-e.invariant.held, (c.requires.readable, c.requires.first_le_max_members)))
+pub declarators-one_member-requires : goal.declarators-one_member-requires
+declarators-one_member-requires t c = (omega (arith, c.decreases), (c.loop-e.invariant.held, (c.requires.readable, c.requires.first_le_max_members)))
 
 pub declarators-shape_of-w-in_default : goal.declarators-shape_of-w-in_default
 declarators-shape_of-w-in_default t c = c.w-1.given ∙ (c.loop-e.invariant.held.long.words ∙ sym c.requires.held.long.words)
@@ -201,7 +199,7 @@ declarators-shape_of-v-in_default t c = c.v-1.given ∙ (c.loop-e.invariant.held
 
 pub declarators-returns-in_default : goal.declarators-returns-in_default
 unfolding member_declarators
-declarators-returns-in_default t c = record { rounds = λ n p. record { run = λ t₁ h. turn (c.loop-e.invariant.going n p t₁ h) (λ t₂ f l h₂. fail _ (c.one_member-r.ensures.run t₂ h₂) (ap move c.in_default.is)) } }
+declarators-returns-in_default t c = record { rounds = λ n p. record { run = λ t₁ h. turn (c.loop-e.invariant.going n p t₁ h) (λ t₂ f l h₂. exit REPLY _ (c.in_err-e.ensures.run t₂ h₂) c.from_residual.ensures.1 refl) } }
 
 pub declarators-shape_of-w-then-kind-ne-SEMICOLON : goal.declarators-shape_of-w-then-kind-ne-SEMICOLON
 declarators-shape_of-w-then-kind-ne-SEMICOLON t c = c.w-1.given ∙ (c.loop-e.invariant.held.long.words ∙ sym c.requires.held.long.words)
@@ -214,7 +212,7 @@ declarators-shape_of-v-then-kind-ne-SEMICOLON t c = c.v-1.given ∙ (c.loop-e.in
 
 pub declarators-returns-then-kind-ne-SEMICOLON : goal.declarators-returns-then-kind-ne-SEMICOLON
 unfolding member_declarators
-declarators-returns-then-kind-ne-SEMICOLON t c = record { rounds = λ n p. record { run = λ t₁ h. turn (c.loop-e.invariant.going n p t₁ h) (λ t₂ f l h₂. call _ (c.one_member-r.ensures.run t₂ h₂) (ap move c.in-To.is) (λ t₃ h₃. is- _ _ c.kind_at-kind.ensures c.if-kind-ne-COMMA.true (by (lone _) (missed _ _ _ c.kind_at-kind.ensures c.if-kind-ne-SEMICOLON.true (no! h₃ refl))))) } }
+declarators-returns-then-kind-ne-SEMICOLON t c = record { rounds = λ n p. record { run = λ t₁ h. turn (c.loop-e.invariant.going n p t₁ h) (λ t₂ f l h₂. next _ (c.in_ok-e.ensures.run t₂ h₂) (λ t₃ h₃. is- _ _ c.kind_at-kind.ensures c.if-kind-ne-COMMA.true (by (lone _) (missed _ _ _ c.kind_at-kind.ensures c.if-kind-ne-SEMICOLON.true (no! h₃ refl))))) } }
 
 pub declarators-overflow_add-at : goal.declarators-overflow_add-at
 declarators-overflow_add-at t c = omega (arith, c.well_formed.0.1, there c.kind_at-kind.ensures c.if-kind-ne-SEMICOLON.false)
@@ -230,20 +228,20 @@ declarators-shape_of-v-then-kind-ne-COMMA t c = c.v-1.given ∙ (c.loop-e.invari
 
 pub declarators-returns-then-kind-ne-COMMA : goal.declarators-returns-then-kind-ne-COMMA
 unfolding member_declarators
-declarators-returns-then-kind-ne-COMMA t c = record { rounds = λ n p. record { run = λ t₁ h. turn (c.loop-e.invariant.going n p t₁ h) (λ t₂ f l h₂. call _ (c.one_member-r.ensures.run t₂ h₂) (ap move c.in-To.is) (λ t₃ h₃. is- _ _ c.kind_at-kind.ensures c.if-kind-ne-COMMA.true (by (lone _) (ate _ _ _ c.kind_at-kind.ensures c.if-kind-ne-SEMICOLON.false (got-at c.moved.ensures h₃))))) } }
+declarators-returns-then-kind-ne-COMMA t c = record { rounds = λ n p. record { run = λ t₁ h. turn (c.loop-e.invariant.going n p t₁ h) (λ t₂ f l h₂. next _ (c.in_ok-e.ensures.run t₂ h₂) (λ t₃ h₃. is- _ _ c.kind_at-kind.ensures c.if-kind-ne-COMMA.true (by (lone _) (ate _ _ _ c.kind_at-kind.ensures c.if-kind-ne-SEMICOLON.false (got-at c.moved.ensures h₃))))) } }
 
 pub declarators-overflow_add-at-in-loop-e : goal.declarators-overflow_add-at-in-loop-e
 declarators-overflow_add-at-in-loop-e t c = omega (arith, c.well_formed.0.1, there c.kind_at-kind.ensures c.if-kind-ne-COMMA.false)
 
 pub declarators-loop-e-smaller : goal.declarators-loop-e-smaller
-declarators-loop-e-smaller t c = fewer _ _ c.moved-here.ensures (moves-on c.one_member-r.ensures c.loop-e.invariant.held (ap move c.in-To.is) (member_declarator-on _ _ _ (levels-on _ _ _) _ _)) (there c.kind_at-kind.ensures c.if-kind-ne-COMMA.false)
+declarators-loop-e-smaller t c = fewer _ _ c.moved-here.ensures (moves-on c.in_ok-e.ensures c.loop-e.invariant.held refl (member_declarator-on _ _ _ (levels-on _ _ _) _ _)) (there c.kind_at-kind.ensures c.if-kind-ne-COMMA.false)
 
 pub declarators-loop-e-preserved : goal.declarators-loop-e-preserved
 unfolding member_declarators
 declarators-loop-e-preserved t c = record {
-  held = held_at c.moved-here.ensures (held_on c.one_member-r.ensures c.loop-e.invariant.held (ap move c.in-To.is));
-  going = λ n p t₁ h. turn (c.loop-e.invariant.going n p t₁ h) (λ t₂ f l h₂. call _ (c.one_member-r.ensures.run t₂ h₂) (ap move c.in-To.is) (λ t₃ h₃. is+ _ _ c.kind_at-kind.ensures c.if-kind-ne-COMMA.false
-      (starts-at c.moved-here.ensures h₃ (lt_of_lt_of_le (fewer _ _ c.moved-here.ensures (moves-on c.one_member-r.ensures c.loop-e.invariant.held (ap move c.in-To.is) (member_declarator-on _ _ _ (levels-on _ _ _) _ _)) (there c.kind_at-kind.ensures c.if-kind-ne-COMMA.false)) l))));
+  held = held_at c.moved-here.ensures (held_next c.in_ok-e.ensures c.loop-e.invariant.held);
+  going = λ n p t₁ h. turn (c.loop-e.invariant.going n p t₁ h) (λ t₂ f l h₂. next _ (c.in_ok-e.ensures.run t₂ h₂) (λ t₃ h₃. is+ _ _ c.kind_at-kind.ensures c.if-kind-ne-COMMA.false
+      (starts-at c.moved-here.ensures h₃ (lt_of_lt_of_le (fewer _ _ c.moved-here.ensures (moves-on c.in_ok-e.ensures c.loop-e.invariant.held refl (member_declarator-on _ _ _ (levels-on _ _ _) _ _)) (there c.kind_at-kind.ensures c.if-kind-ne-COMMA.false)) l))));
 }
 
 pub declared_type-overflow_add-at : goal.declared_type-overflow_add-at
@@ -261,20 +259,20 @@ declared_type-pointer_type-requires t c = record { held = c.requires.held; reada
 pub declared_type-returns-then-is_plain_pointer-room : goal.declared_type-returns-then-is_plain_pointer-room
 declared_type-returns-then-is_plain_pointer-room t c = c.pointer_type.ensures.of _ _ (has_levels _ c.is_plain_pointer.ensures c.if-is_plain_pointer-room.true)
 
-pub declared_type-declarator-t-requires : goal.declared_type-declarator-t-requires
-declared_type-declarator-t-requires t c = (omega (arith, c.decreases), (c.requires.held, (c.requires.readable, starts-empty _ c.empty.ensures.kept)))
+pub declared_type-declarator-requires : goal.declared_type-declarator-requires
+declared_type-declarator-requires t c = (omega (arith, c.decreases), (c.requires.held, (c.requires.readable, starts-empty _ c.empty.ensures.kept)))
 
-pub declared_type-apply-r-requires : goal.declared_type-apply-r-requires
-declared_type-apply-r-requires t c = (declared_held c.declarator-t.ensures c.in-Done.is c.requires.held, declared_few c.declarator-t.ensures c.in-Done.is)
+pub declared_type-apply-requires : goal.declared_type-apply-requires
+declared_type-apply-requires t c = (declared_held c.in_ok-e.ensures c.in-Done.is c.requires.held, declared_few c.in_ok-e.ensures c.in-Done.is)
 
 pub declared_type-returns-in-Done-r : goal.declared_type-returns-in-Done-r
-declared_type-returns-in-Done-r t c = typed-done _ _ c.empty.ensures.kept c.declarator-t.ensures c.in-Done.is c.apply-r.ensures c.in-Done-r.is
+declared_type-returns-in-Done-r t c = typed-done _ _ c.empty.ensures.kept c.in_ok-e.ensures c.in-Done.is c.in_ok-f.ensures c.in-Done-r.is
 
 pub declared_type-returns-in-Refused-r : goal.declared_type-returns-in-Refused-r
-declared_type-returns-in-Refused-r t c = typed-refused _ _ c.empty.ensures.kept c.declarator-t.ensures c.in-Done.is c.apply-r.ensures c.in-Refused-r.is
+declared_type-returns-in-Refused-r t c = typed-refused _ _ c.empty.ensures.kept c.in_ok-e.ensures c.in-Done.is c.in_ok-f.ensures c.in-Refused-r.is
 
 pub declared_type-returns-in-Refused : goal.declared_type-returns-in-Refused
-declared_type-returns-in-Refused t c = typed-stop _ _ c.empty.ensures.kept c.declarator-t.ensures c.in-Refused.is
+declared_type-returns-in-Refused t c = typed-stop _ _ c.empty.ensures.kept c.in_ok-e.ensures c.in-Refused.is
 
 pub direct-returns-then-room-eq0 : goal.direct-returns-then-room-eq0
 direct-returns-then-room-eq0 t c = stops (ap (λ x. x.answer) c.new.ensures) (λ b h. by (no_direct _ _ _ _ c.if-room-eq0.true) (no! h refl))
@@ -306,20 +304,20 @@ direct-returns-then-not-opens_declarator t c = by-nothing _ _ _ _ c.requires.sta
 pub direct-overflow_add-at-2 : goal.direct-overflow_add-at-2
 direct-overflow_add-at-2 t c = omega (arith, c.requires.readable.few, opens-there _ _ _ (sym (c.opens_declarator.ensures.of _ c.requires.held.encodes.words c.requires.held.encodes.index c.requires.held.encodes.counts) ∙ not-false _ c.if-not-opens_declarator.false-raw))
 
-pub direct-declarator-r-requires : goal.direct-declarator-r-requires
-direct-declarator-r-requires t c = (omega (arith, c.decreases, c.if-room-eq0.false), (held_at c.moved-2.ensures c.requires.held, (c.requires.readable, c.requires.starting)))
+pub direct-declarator-requires : goal.direct-declarator-requires
+direct-declarator-requires t c = (omega (arith, c.decreases, c.if-room-eq0.false), (held_at c.moved-2.ensures c.requires.held, (c.requires.readable, c.requires.starting)))
 
 pub direct-returns-in_default : goal.direct-returns-in_default
-direct-returns-in_default t c = inner-stop _ _ _ _ c.requires.starting c.if-room-eq0.false (no_name_lem c.kind_at.ensures c.is_name.ensures (ap not c.if-is_name.false)) c.opens_declarator.ensures (not-false _ c.if-not-opens_declarator.false-raw) c.moved-2.ensures c.declarator-r.ensures c.in_default.is
+direct-returns-in_default t c = inner-stop _ _ _ _ c.requires.starting c.if-room-eq0.false (no_name_lem c.kind_at.ensures c.is_name.ensures (ap not c.if-is_name.false)) c.opens_declarator.ensures (not-false _ c.if-not-opens_declarator.false-raw) c.moved-2.ensures c.in_ok-e.ensures c.in_default.is
 
 pub direct-returns-then-kind_at-ne-CLOSE_PAREN : goal.direct-returns-then-kind_at-ne-CLOSE_PAREN
-direct-returns-then-kind_at-ne-CLOSE_PAREN t c = not_closed_lem _ _ _ _ c.requires.starting c.if-room-eq0.false (no_name_lem c.kind_at.ensures c.is_name.ensures (ap not c.if-is_name.false)) c.opens_declarator.ensures (not-false _ c.if-not-opens_declarator.false-raw) c.moved-2.ensures c.declarator-r.ensures c.in-Done.is c.kind_at-2.ensures c.if-kind_at-ne-CLOSE_PAREN.true c.new-then-kind_at-ne-CLOSE_PAREN.ensures
+direct-returns-then-kind_at-ne-CLOSE_PAREN t c = not_closed_lem _ _ _ _ c.requires.starting c.if-room-eq0.false (no_name_lem c.kind_at.ensures c.is_name.ensures (ap not c.if-is_name.false)) c.opens_declarator.ensures (not-false _ c.if-not-opens_declarator.false-raw) c.moved-2.ensures c.in_ok-e.ensures c.in-Done.is c.kind_at-2.ensures c.if-kind_at-ne-CLOSE_PAREN.true c.new-then-kind_at-ne-CLOSE_PAREN.ensures
 
 pub direct-overflow_add-i : goal.direct-overflow_add-i
 direct-overflow_add-i t c = omega (arith, c.requires.readable.few, there c.kind_at-2.ensures c.if-kind_at-ne-CLOSE_PAREN.false)
 
 pub direct-suffixes-requires-2 : goal.direct-suffixes-requires-2
-direct-suffixes-requires-2 t c = (omega (arith, c.decreases, c.if-room-eq0.false), (held_at c.moved-3.ensures (declared_held c.declarator-r.ensures c.in-Done.is (held_at c.moved-2.ensures c.requires.held)), (c.requires.readable, declared_waits c.declarator-r.ensures c.in-Done.is)))
+direct-suffixes-requires-2 t c = (omega (arith, c.decreases, c.if-room-eq0.false), (held_at c.moved-3.ensures (declared_held c.in_ok-e.ensures c.in-Done.is (held_at c.moved-2.ensures c.requires.held)), (c.requires.readable, declared_waits c.in_ok-e.ensures c.in-Done.is)))
 
 pub direct-shape_of-w : goal.direct-shape_of-w
 direct-shape_of-w t c = c.w-3-1.given ∙ c.w-2-1.given
@@ -331,7 +329,7 @@ pub direct-shape_of-v : goal.direct-shape_of-v
 direct-shape_of-v t c = c.v-3-1.given ∙ c.v-2-1.given
 
 pub direct-returns : goal.direct-returns
-direct-returns t c = closed _ _ _ _ c.requires.starting c.if-room-eq0.false (no_name_lem c.kind_at.ensures c.is_name.ensures (ap not c.if-is_name.false)) c.opens_declarator.ensures (not-false _ c.if-not-opens_declarator.false-raw) c.moved-2.ensures c.declarator-r.ensures c.in-Done.is c.kind_at-2.ensures c.if-kind_at-ne-CLOSE_PAREN.false c.moved-3.ensures c.suffixes-2.ensures
+direct-returns t c = closed _ _ _ _ c.requires.starting c.if-room-eq0.false (no_name_lem c.kind_at.ensures c.is_name.ensures (ap not c.if-is_name.false)) c.opens_declarator.ensures (not-false _ c.if-not-opens_declarator.false-raw) c.moved-2.ensures c.in_ok-e.ensures c.in-Done.is c.kind_at-2.ensures c.if-kind_at-ne-CLOSE_PAREN.false c.moved-3.ensures c.suffixes-2.ensures
 
 pub list-loop-m-init : goal.list-loop-m-init
 list-loop-m-init t c = record { reading = begin c.requires.held; passed = omega arith; few = omega arith }
@@ -352,8 +350,8 @@ pub list-returns-then-kind_at-eq-ELLIPSIS : goal.list-returns-then-kind_at-eq-EL
 unfolding parameters_from
 list-returns-then-kind_at-eq-ELLIPSIS t c = record { run = λ t₁ h. turn (c.loop-m.invariant.reading.going _ (enough _) t₁ h) (λ t₂ f l h₂. is+ _ _ c.kind_at.ensures c.if-kind_at-eq-ELLIPSIS.true (step-on c.moved.ensures (c.parameters_end.ensures.with c.args.numbers.now (model c.args.m) (levels (tokens c.args.kinds.now c.args.numbers.now) (model c.args.m) c.args.room) _ _ _) h₂)) }
 
-pub list-parameter-p-requires : goal.list-parameter-p-requires
-list-parameter-p-requires t c = (omega (arith, c.decreases), (c.loop-m.invariant.reading.held, c.requires.readable))
+pub list-parameter-requires : goal.list-parameter-requires
+list-parameter-requires t c = (omega (arith, c.decreases), (c.loop-m.invariant.reading.held, c.requires.readable))
 
 pub list-shape_of-w-in-Refused : goal.list-shape_of-w-in-Refused
 list-shape_of-w-in-Refused t c = c.w-1.given ∙ (c.loop-m.invariant.reading.held.long.words ∙ sym c.requires.held.long.words)
@@ -366,7 +364,7 @@ list-shape_of-v-in-Refused t c = c.v-1.given ∙ (c.loop-m.invariant.reading.hel
 
 pub list-returns-in-Refused : goal.list-returns-in-Refused
 unfolding parameters_from
-list-returns-in-Refused t c = record { run = λ t₁ h. turn (c.loop-m.invariant.reading.going _ (enough _) t₁ h) (λ t₂ f l h₂. is- _ _ c.kind_at.ensures c.if-kind_at-eq-ELLIPSIS.false (refuse _ (c.parameter-p.ensures.run t₂ h₂) (ap typed c.in-Refused.is) refl)) }
+list-returns-in-Refused t c = record { run = λ t₁ h. turn (c.loop-m.invariant.reading.going _ (enough _) t₁ h) (λ t₂ f l h₂. is- _ _ c.kind_at.ensures c.if-kind_at-eq-ELLIPSIS.false (exit REPLY _ (c.in_err-e.ensures.run t₂ h₂) c.from_residual.ensures.1 refl)) }
 
 pub list-shape_of-w-then-is_void_list : goal.list-shape_of-w-then-is_void_list
 list-shape_of-w-then-is_void_list t c = c.w-1.given ∙ (c.loop-m.invariant.reading.held.long.words ∙ sym c.requires.held.long.words)
@@ -380,12 +378,12 @@ list-shape_of-v-then-is_void_list t c = c.v-1.given ∙ (c.loop-m.invariant.read
 pub list-returns-then-is_void_list : goal.list-returns-then-is_void_list
 unfolding parameters_from
 list-returns-then-is_void_list t c = record {
-  run = λ t₁ h. turn (c.loop-m.invariant.reading.going _ (enough _) t₁ h) (λ t₂ f l h₂. is- _ _ c.kind_at.ensures c.if-kind_at-eq-ELLIPSIS.false (call _ (c.parameter-p.ensures.run t₂ h₂) (ap typed c.in-Done.is)
+  run = λ t₁ h. turn (c.loop-m.invariant.reading.going _ (enough _) t₁ h) (λ t₂ f l h₂. is- _ _ c.kind_at.ensures c.if-kind_at-eq-ELLIPSIS.false (next _ (c.in_ok-e.ensures.run t₂ h₂)
       (λ t₃ h₃. yes! _ _ _ (sym (c.is_void_list.ensures.of _ t₃) ∙ c.if-is_void_list.true) ((c.parameters_end-then-is_void_list.ensures.with c.args.numbers.now (model c.args.m) (levels (tokens c.args.kinds.now c.args.numbers.now) (model c.args.m) c.args.room) _ _ _).run t₃ h₃))));
 }
 
-pub list-add_parameter-r-requires : goal.list-add_parameter-r-requires
-list-add_parameter-r-requires t c = record { held = held_on c.parameter-p.ensures c.loop-m.invariant.reading.held (ap typed c.in-Done.is); first_le_max_parameters = c.requires.first_le_max_parameters }
+pub list-add_parameter-requires : goal.list-add_parameter-requires
+list-add_parameter-requires t c = record { held = held_next c.in_ok-e.ensures c.loop-m.invariant.reading.held; first_le_max_parameters = c.requires.first_le_max_parameters }
 
 pub list-shape_of-w-in-Refused-r : goal.list-shape_of-w-in-Refused-r
 list-shape_of-w-in-Refused-r t c = c.w-in-Done-1.given ∙ (c.w-1.given ∙ (c.loop-m.invariant.reading.held.long.words ∙ sym c.requires.held.long.words))
@@ -399,8 +397,8 @@ list-shape_of-v-in-Refused-r t c = c.v-in-Done-1.given ∙ (c.v-1.given ∙ (c.l
 pub list-returns-in-Refused-r : goal.list-returns-in-Refused-r
 unfolding parameters_from
 list-returns-in-Refused-r t c = record {
-  run = λ t₁ h. turn (c.loop-m.invariant.reading.going _ (enough _) t₁ h) (λ t₂ f l h₂. is- _ _ c.kind_at.ensures c.if-kind_at-eq-ELLIPSIS.false (call _ (c.parameter-p.ensures.run t₂ h₂) (ap typed c.in-Done.is)
-      (λ t₃ h₃. nay! _ _ _ (sym (c.is_void_list.ensures.of _ t₃) ∙ c.if-is_void_list.false) (entered _ _ _ _ _ _ (refuse _ (c.add_parameter-r.ensures.run t₃ h₃) (ap step c.in-Refused-r.is) refl)))));
+  run = λ t₁ h. turn (c.loop-m.invariant.reading.going _ (enough _) t₁ h) (λ t₂ f l h₂. is- _ _ c.kind_at.ensures c.if-kind_at-eq-ELLIPSIS.false (next _ (c.in_ok-e.ensures.run t₂ h₂)
+      (λ t₃ h₃. nay! _ _ _ (sym (c.is_void_list.ensures.of _ t₃) ∙ c.if-is_void_list.false) (entered _ _ _ _ _ _ (exit REPLY _ (c.in_err-f.ensures.run t₃ h₃) c.from_residual.ensures.1 refl)))));
 }
 
 pub list-overflow_add-n : goal.list-overflow_add-n
@@ -418,39 +416,39 @@ list-shape_of-v-then-kind_at-ne-COMMA t c = c.v-in-Done-1.given ∙ (c.v-1.given
 pub list-returns-then-kind_at-ne-COMMA : goal.list-returns-then-kind_at-ne-COMMA
 unfolding parameters_from
 list-returns-then-kind_at-ne-COMMA t c = record {
-  run = λ t₁ h. turn (c.loop-m.invariant.reading.going _ (enough _) t₁ h) (λ t₂ f l h₂. is- _ _ c.kind_at.ensures c.if-kind_at-eq-ELLIPSIS.false (call _ (c.parameter-p.ensures.run t₂ h₂) (ap typed c.in-Done.is)
-      (λ t₃ h₃. nay! _ _ _ (sym (c.is_void_list.ensures.of _ t₃) ∙ c.if-is_void_list.false) (entered _ _ _ _ _ _ (call _ (c.add_parameter-r.ensures.run t₃ h₃) (ap step c.in-Done-r.is) (λ t₄ h₄. is- _ _ c.kind_at-in-Done-r.ensures c.if-kind_at-ne-COMMA.true (counted-end _ _ _ _ _ _ _ ((c.parameters_end-then-kind_at-ne-COMMA.ensures.with c.args.numbers.now (model c.args.m) (levels (tokens c.args.kinds.now c.args.numbers.now) (model c.args.m) c.args.room) _ _ _).run t₄ h₄))))))));
+  run = λ t₁ h. turn (c.loop-m.invariant.reading.going _ (enough _) t₁ h) (λ t₂ f l h₂. is- _ _ c.kind_at.ensures c.if-kind_at-eq-ELLIPSIS.false (next _ (c.in_ok-e.ensures.run t₂ h₂)
+      (λ t₃ h₃. nay! _ _ _ (sym (c.is_void_list.ensures.of _ t₃) ∙ c.if-is_void_list.false) (entered _ _ _ _ _ _ (next _ (c.in_ok-f.ensures.run t₃ h₃) (λ t₄ h₄. is- _ _ c.kind_at-in-Done-r.ensures c.if-kind_at-ne-COMMA.true (counted-end _ _ _ _ _ _ _ ((c.parameters_end-then-kind_at-ne-COMMA.ensures.with c.args.numbers.now (model c.args.m) (levels (tokens c.args.kinds.now c.args.numbers.now) (model c.args.m) c.args.room) _ _ _).run t₄ h₄))))))));
 }
 
 pub list-overflow_add-i : goal.list-overflow_add-i
 list-overflow_add-i t c = omega (arith, c.well_formed.0.1, there c.kind_at-in-Done-r.ensures c.if-kind_at-ne-COMMA.false)
 
 pub list-loop-m-smaller : goal.list-loop-m-smaller
-list-loop-m-smaller t c = (fewer _ _ c.moved-here.ensures (entry-on (typed-on c.parameter-p.ensures c.loop-m.invariant.reading.held (ap typed c.in-Done.is) (parameter-on _ _ _ (levels-on _ _ _))) (stays c.add_parameter-r.ensures (held_on c.parameter-p.ensures c.loop-m.invariant.reading.held (ap typed c.in-Done.is)) (ap step c.in-Done-r.is) (added_parameter-stays _ _ _ _))) (there c.kind_at-in-Done-r.ensures c.if-kind_at-ne-COMMA.false))
+list-loop-m-smaller t c = (fewer _ _ c.moved-here.ensures (entry-on (typed-on c.in_ok-e.ensures c.loop-m.invariant.reading.held refl (parameter-on _ _ _ (levels-on _ _ _))) (stays c.in_ok-f.ensures (held_next c.in_ok-e.ensures c.loop-m.invariant.reading.held) refl (added_parameter-stays _ _ _ _))) (there c.kind_at-in-Done-r.ensures c.if-kind_at-ne-COMMA.false))
 
 pub list-loop-m-preserved : goal.list-loop-m-preserved
 unfolding parameters_from
 list-loop-m-preserved t c = record {
   reading = record {
-    held = held_at c.moved-here.ensures (held_on c.add_parameter-r.ensures (held_on c.parameter-p.ensures c.loop-m.invariant.reading.held (ap typed c.in-Done.is)) (ap step c.in-Done-r.is));
-    going = λ k p t₁ h. turn (c.loop-m.invariant.reading.going k p t₁ h) (λ t₂ f l h₂. is- _ _ c.kind_at.ensures c.if-kind_at-eq-ELLIPSIS.false (call _ (c.parameter-p.ensures.run t₂ h₂) (ap typed c.in-Done.is)
-        (λ t₃ h₃. nay! _ _ _ (sym (c.is_void_list.ensures.of _ t₃) ∙ c.if-is_void_list.false) (entered _ _ _ _ _ _ (call _ (c.add_parameter-r.ensures.run t₃ h₃) (ap step c.in-Done-r.is) (λ t₄ h₄. is+ _ _ c.kind_at-in-Done-r.ensures c.if-kind_at-ne-COMMA.false (counted-on (tokens c.args.kinds.now c.args.numbers.now) (model c.args.m) (levels (tokens c.args.kinds.now c.args.numbers.now) (model c.args.m) c.args.room) c.args.first c.loop-m.n (state (moved_to c.in-Done-r.f (c.in-Done-r.f.at + 1)) t₄) f (starts-at c.moved-here.ensures h₄ (lt_of_lt_of_le (fewer _ _ c.moved-here.ensures (entry-on (typed-on c.parameter-p.ensures c.loop-m.invariant.reading.held (ap typed c.in-Done.is) (parameter-on _ _ _ (levels-on _ _ _))) (stays c.add_parameter-r.ensures (held_on c.parameter-p.ensures c.loop-m.invariant.reading.held (ap typed c.in-Done.is)) (ap step c.in-Done-r.is) (added_parameter-stays _ _ _ _))) (there c.kind_at-in-Done-r.ensures c.if-kind_at-ne-COMMA.false)) l)))))))));
+    held = held_at c.moved-here.ensures (held_next c.in_ok-f.ensures (held_next c.in_ok-e.ensures c.loop-m.invariant.reading.held));
+    going = λ k p t₁ h. turn (c.loop-m.invariant.reading.going k p t₁ h) (λ t₂ f l h₂. is- _ _ c.kind_at.ensures c.if-kind_at-eq-ELLIPSIS.false (next _ (c.in_ok-e.ensures.run t₂ h₂)
+        (λ t₃ h₃. nay! _ _ _ (sym (c.is_void_list.ensures.of _ t₃) ∙ c.if-is_void_list.false) (entered _ _ _ _ _ _ (next _ (c.in_ok-f.ensures.run t₃ h₃) (λ t₄ h₄. is+ _ _ c.kind_at-in-Done-r.ensures c.if-kind_at-ne-COMMA.false (counted-on (tokens c.args.kinds.now c.args.numbers.now) (model c.args.m) (levels (tokens c.args.kinds.now c.args.numbers.now) (model c.args.m) c.args.room) c.args.first c.loop-m.n (state (moved_to c.in-Done-r.f (c.in-Done-r.f.at + 1)) t₄) f (starts-at c.moved-here.ensures h₄ (lt_of_lt_of_le (fewer _ _ c.moved-here.ensures (entry-on (typed-on c.in_ok-e.ensures c.loop-m.invariant.reading.held refl (parameter-on _ _ _ (levels-on _ _ _))) (stays c.in_ok-f.ensures (held_next c.in_ok-e.ensures c.loop-m.invariant.reading.held) refl (added_parameter-stays _ _ _ _))) (there c.kind_at-in-Done-r.ensures c.if-kind_at-ne-COMMA.false)) l)))))))));
   };
-  passed = one_more c.moved-here.ensures c.loop-m.invariant.passed (entry-on (typed-on c.parameter-p.ensures c.loop-m.invariant.reading.held (ap typed c.in-Done.is) (parameter-on _ _ _ (levels-on _ _ _))) (stays c.add_parameter-r.ensures (held_on c.parameter-p.ensures c.loop-m.invariant.reading.held (ap typed c.in-Done.is)) (ap step c.in-Done-r.is) (added_parameter-stays _ _ _ _)));
-  few = one_fewer c.loop-m.invariant.passed (entry-on (typed-on c.parameter-p.ensures c.loop-m.invariant.reading.held (ap typed c.in-Done.is) (parameter-on _ _ _ (levels-on _ _ _))) (stays c.add_parameter-r.ensures (held_on c.parameter-p.ensures c.loop-m.invariant.reading.held (ap typed c.in-Done.is)) (ap step c.in-Done-r.is) (added_parameter-stays _ _ _ _))) (there c.kind_at-in-Done-r.ensures c.if-kind_at-ne-COMMA.false);
+  passed = one_more c.moved-here.ensures c.loop-m.invariant.passed (entry-on (typed-on c.in_ok-e.ensures c.loop-m.invariant.reading.held refl (parameter-on _ _ _ (levels-on _ _ _))) (stays c.in_ok-f.ensures (held_next c.in_ok-e.ensures c.loop-m.invariant.reading.held) refl (added_parameter-stays _ _ _ _)));
+  few = one_fewer c.loop-m.invariant.passed (entry-on (typed-on c.in_ok-e.ensures c.loop-m.invariant.reading.held refl (parameter-on _ _ _ (levels-on _ _ _))) (stays c.in_ok-f.ensures (held_next c.in_ok-e.ensures c.loop-m.invariant.reading.held) refl (added_parameter-stays _ _ _ _))) (there c.kind_at-in-Done-r.ensures c.if-kind_at-ne-COMMA.false);
 }
 
-pub member-specifiers-s-requires : goal.member-specifiers-s-requires
-member-specifiers-s-requires t c = (omega (arith, c.decreases), (c.requires.held, c.requires.readable))
+pub member-specifiers-requires : goal.member-specifiers-requires
+member-specifiers-requires t c = (omega (arith, c.decreases), (c.requires.held, c.requires.readable))
 
 pub member-returns-then-ne : goal.member-returns-then-ne
-member-returns-then-ne t c = record { run = λ t₁ h. by (declaration-made _ _ _ _ _) (call _ (c.specifiers-s.ensures.run t₁ h) (ap specified c.in-Done.is) (λ t₂ h₂. eq- _ _ _ _ (has_class c.in-Done.p.storage c.if-ne.ensures) (no! h₂ refl))) }
+member-returns-then-ne t c = record { run = λ t₁ h. by (declaration-made _ _ _ _ _) (next _ (c.in_ok-e.ensures.run t₁ h) (λ t₂ h₂. eq- _ _ _ _ (has_class _ c.if-ne.ensures) (no! h₂ refl))) }
 
-pub member-base_type-r-requires : goal.member-base_type-r-requires
-member-base_type-r-requires t c = held_on c.specifiers-s.ensures c.requires.held (ap specified c.in-Done.is)
+pub member-base_type-requires : goal.member-base_type-requires
+member-base_type-requires t c = held_next c.in_ok-e.ensures c.requires.held
 
 pub member-after_type-requires : goal.member-after_type-requires
-member-after_type-requires t c = (omega (arith, c.decreases), (held_on c.base_type-r.ensures (held_on c.specifiers-s.ensures c.requires.held (ap specified c.in-Done.is)) (ap step c.in-Done-r.is), (c.requires.readable, c.requires.first_le_max_members)))
+member-after_type-requires t c = (omega (arith, c.decreases), (held_next c.in_ok-f.ensures (held_next c.in_ok-e.ensures c.requires.held), (c.requires.readable, c.requires.first_le_max_members)))
 
 pub member-shape_of-w-in-Done-r : goal.member-shape_of-w-in-Done-r
 member-shape_of-w-in-Done-r t c = c.w-in-Done-r-1.given ∙ (c.w-in-Done-1.given ∙ c.w-1.given)
@@ -462,11 +460,11 @@ pub member-shape_of-v-in-Done-r : goal.member-shape_of-v-in-Done-r
 member-shape_of-v-in-Done-r t c = c.v-in-Done-r-1.given ∙ (c.v-in-Done-1.given ∙ c.v-1.given)
 
 pub member-returns-in-Done-r : goal.member-returns-in-Done-r
-member-returns-in-Done-r t c = let a = held_on c.specifiers-s.ensures c.requires.held (ap specified c.in-Done.is) in
-    let far = member-enough (tokens c.args.kinds.now c.args.numbers.now) (on c.specifiers-s.ensures c.requires.held (ap specified c.in-Done.is) (specifiers-on _ _ _ (levels-on _ _ _))) (stays c.base_type-r.ensures a (ap step c.in-Done-r.is) (λ s. base_type-stays s _ _ _)) in
+member-returns-in-Done-r t c = let a = held_next c.in_ok-e.ensures c.requires.held in
+    let far = member-enough (tokens c.args.kinds.now c.args.numbers.now) (on c.in_ok-e.ensures c.requires.held refl (specifiers-on _ _ _ (levels-on _ _ _))) (stays c.in_ok-f.ensures a refl (λ s. base_type-stays s _ _ _)) in
     record {
-      run = λ t₁ h. by (declaration-made _ _ _ _ _) (call _ (c.specifiers-s.ensures.run t₁ h) (ap specified c.in-Done.is) (λ t₂ h₂. eq+ _ _ _ _ (no_class c.in-Done.p.storage c.if-ne.ensures)
-          (call _ (c.base_type-r.ensures.run t₂ h₂) (ap step c.in-Done-r.is) (λ t₃ h₃. (c.after_type.ensures.rounds _ far).run t₃ h₃))));
+      run = λ t₁ h. by (declaration-made _ _ _ _ _) (next _ (c.in_ok-e.ensures.run t₁ h) (λ t₂ h₂. eq+ _ _ _ _ (no_class _ c.if-ne.ensures)
+          (next _ (c.in_ok-f.ensures.run t₂ h₂) (λ t₃ h₃. (c.after_type.ensures.rounds _ far).run t₃ h₃))));
     }
 
 pub member-shape_of-w-in-Refused-r : goal.member-shape_of-w-in-Refused-r
@@ -480,12 +478,12 @@ member-shape_of-v-in-Refused-r t c = c.v-in-Done-1.given ∙ c.v-1.given
 
 pub member-returns-in-Refused-r : goal.member-returns-in-Refused-r
 member-returns-in-Refused-r t c = record {
-  run = λ t₁ h. by (declaration-made _ _ _ _ _) (call _ (c.specifiers-s.ensures.run t₁ h) (ap specified c.in-Done.is) (λ t₂ h₂. eq+ _ _ _ _ (no_class c.in-Done.p.storage c.if-ne.ensures)
-      (refuse _ (c.base_type-r.ensures.run t₂ h₂) (ap step c.in-Refused-r.is) refl)));
+  run = λ t₁ h. by (declaration-made _ _ _ _ _) (next _ (c.in_ok-e.ensures.run t₁ h) (λ t₂ h₂. eq+ _ _ _ _ (no_class _ c.if-ne.ensures)
+      (exit REPLY _ (c.in_err-f.ensures.run t₂ h₂) c.from_residual.ensures.1 refl)));
 }
 
 pub member-returns-in-Refused : goal.member-returns-in-Refused
-member-returns-in-Refused t c = record { run = λ t₁ h. by (declaration-made _ _ _ _ _) (refuse _ (c.specifiers-s.ensures.run t₁ h) (ap specified c.in-Refused.is) refl) }
+member-returns-in-Refused t c = record { run = λ t₁ h. by (declaration-made _ _ _ _ _) (exit REPLY _ (c.in_err-e.ensures.run t₁ h) c.from_residual.ensures.1 refl) }
 
 pub member_list-loop-m-init : goal.member_list-loop-m-init
 member_list-loop-m-init t c = begin c.requires.held
@@ -533,8 +531,8 @@ member_list-loop-m-preserved-then-kind-eq-SEMICOLON t c = record {
       (starts-at c.moved-here.ensures h₂ (lt_of_lt_of_le (fewer _ _ c.moved-here.ensures (omega arith) (there c.kind_at-kind.ensures c.if-kind-eq-SEMICOLON.true)) l)))));
 }
 
-pub member_list-member-r-requires : goal.member_list-member-r-requires
-member_list-member-r-requires t c = (omega (arith, c.decreases), (c.loop-m.invariant.held, (c.requires.readable, c.requires.first_le_max_members)))
+pub member_list-member-requires : goal.member_list-member-requires
+member_list-member-requires t c = (omega (arith, c.decreases), (c.loop-m.invariant.held, (c.requires.readable, c.requires.first_le_max_members)))
 
 pub member_list-shape_of-w-in_default : goal.member_list-shape_of-w-in_default
 member_list-shape_of-w-in_default t c = c.w-1.given ∙ (c.loop-m.invariant.held.long.words ∙ sym c.requires.held.long.words)
@@ -549,18 +547,18 @@ pub member_list-returns-in_default : goal.member_list-returns-in_default
 unfolding members_from
 member_list-returns-in_default t c = record {
   run = λ t₁ h. turn (c.loop-m.invariant.going _ (enough _) t₁ h) (λ t₂ f l h₂. is- _ _ c.kind_at-kind.ensures c.if-kind-eq-CLOSE_BRACE.false (is- _ _ c.kind_at-kind.ensures c.if-kind-eq-END.false (is- _ _ c.kind_at-kind.ensures c.if-kind-eq-SEMICOLON.false
-      (fail _ (c.member-r.ensures.run t₂ h₂) (ap move c.in_default.is)))));
+      (exit REPLY _ (c.in_err-e.ensures.run t₂ h₂) c.from_residual.ensures.1 refl))));
 }
 
 pub member_list-loop-m-smaller : goal.member_list-loop-m-smaller
-member_list-loop-m-smaller t c = fewer-past (moves-past c.member-r.ensures c.loop-m.invariant.held (ap move c.in-To.is) (member_declaration-past _ _ _ (levels-on _ _ _) _)) (here-still c.kind_at-kind.ensures c.if-kind-eq-END.false)
+member_list-loop-m-smaller t c = fewer-past (moves-past c.in_ok-e.ensures c.loop-m.invariant.held refl (member_declaration-past _ _ _ (levels-on _ _ _) _)) (here-still c.kind_at-kind.ensures c.if-kind-eq-END.false)
 
 pub member_list-loop-m-preserved : goal.member_list-loop-m-preserved
 unfolding members_from
 member_list-loop-m-preserved t c = record {
-  held = held_on c.member-r.ensures c.loop-m.invariant.held (ap move c.in-To.is);
+  held = held_next c.in_ok-e.ensures c.loop-m.invariant.held;
   going = λ n p t₁ h. turn (c.loop-m.invariant.going n p t₁ h) (λ t₂ f l h₂. is- _ _ c.kind_at-kind.ensures c.if-kind-eq-CLOSE_BRACE.false (is- _ _ c.kind_at-kind.ensures c.if-kind-eq-END.false (is- _ _ c.kind_at-kind.ensures c.if-kind-eq-SEMICOLON.false
-      (call _ (c.member-r.ensures.run t₂ h₂) (ap move c.in-To.is) (λ t₃ h₃. starts h₃ (lt_of_lt_of_le (fewer-past (moves-past c.member-r.ensures c.loop-m.invariant.held (ap move c.in-To.is) (member_declaration-past _ _ _ (levels-on _ _ _) _)) (here-still c.kind_at-kind.ensures c.if-kind-eq-END.false)) l))))));
+      (next _ (c.in_ok-e.ensures.run t₂ h₂) (λ t₃ h₃. starts h₃ (lt_of_lt_of_le (fewer-past (moves-past c.in_ok-e.ensures c.loop-m.invariant.held refl (member_declaration-past _ _ _ (levels-on _ _ _) _)) (here-still c.kind_at-kind.ensures c.if-kind-eq-END.false)) l))))));
 }
 
 pub one_member-field-requires : goal.one_member-field-requires
@@ -569,26 +567,26 @@ one_member-field-requires t c = (c.requires.held, c.requires.first_le_max_member
 pub one_member-returns-then-kind_at-eq-COLON : goal.one_member-returns-then-kind_at-eq-COLON
 one_member-returns-then-kind_at-eq-COLON t c = record { run = λ t₁ h. by (member-made _ _ _ _ _ _) (is+ _ _ c.kind_at.ensures c.if-kind_at-eq-COLON.true ((c.field.ensures _).run t₁ h)) }
 
-pub one_member-declared_type-t-requires : goal.one_member-declared_type-t-requires
-one_member-declared_type-t-requires t c = (omega (arith, c.decreases), (c.requires.held, c.requires.readable))
+pub one_member-declared_type-requires : goal.one_member-declared_type-requires
+one_member-declared_type-requires t c = (omega (arith, c.decreases), (c.requires.held, c.requires.readable))
 
 pub one_member-field-requires-in-Done : goal.one_member-field-requires-in-Done
-one_member-field-requires-in-Done t c = (held_on c.declared_type-t.ensures c.requires.held (ap typed c.in-Done.is), c.requires.first_le_max_members)
+one_member-field-requires-in-Done t c = (held_next c.in_ok-e.ensures c.requires.held, c.requires.first_le_max_members)
 
 pub one_member-returns-in-Done : goal.one_member-returns-in-Done
-one_member-returns-in-Done t c = record { run = λ t₁ h. by (member-made _ _ _ _ _ _) (is- _ _ c.kind_at.ensures c.if-kind_at-eq-COLON.false (call _ (c.declared_type-t.ensures.run t₁ h) (ap typed c.in-Done.is) (λ t₂ h₂. (c.field-in-Done.ensures _).run t₂ h₂))) }
+one_member-returns-in-Done t c = record { run = λ t₁ h. by (member-made _ _ _ _ _ _) (is- _ _ c.kind_at.ensures c.if-kind_at-eq-COLON.false (next _ (c.in_ok-e.ensures.run t₁ h) (λ t₂ h₂. (c.field-in-Done.ensures _).run t₂ h₂))) }
 
 pub one_member-returns-in-Refused : goal.one_member-returns-in-Refused
-one_member-returns-in-Refused t c = record { run = λ t₁ h. by (member-made _ _ _ _ _ _) (is- _ _ c.kind_at.ensures c.if-kind_at-eq-COLON.false (refuse _ (c.declared_type-t.ensures.run t₁ h) (ap typed c.in-Refused.is) refl)) }
+one_member-returns-in-Refused t c = record { run = λ t₁ h. by (member-made _ _ _ _ _ _) (is- _ _ c.kind_at.ensures c.if-kind_at-eq-COLON.false (exit REPLY _ (c.in_err-e.ensures.run t₁ h) c.from_residual.ensures.1 refl)) }
 
-pub parameter-specifiers-s-requires : goal.parameter-specifiers-s-requires
-parameter-specifiers-s-requires t c = (omega (arith, c.decreases), (c.requires.held, c.requires.readable))
+pub parameter-specifiers-requires : goal.parameter-specifiers-requires
+parameter-specifiers-requires t c = (omega (arith, c.decreases), (c.requires.held, c.requires.readable))
 
-pub parameter-base_type-r-requires : goal.parameter-base_type-r-requires
-parameter-base_type-r-requires t c = held_on c.specifiers-s.ensures c.requires.held (ap specified c.in-Done.is)
+pub parameter-base_type-requires : goal.parameter-base_type-requires
+parameter-base_type-requires t c = held_next c.in_ok-e.ensures c.requires.held
 
 pub parameter-declared_type-requires : goal.parameter-declared_type-requires
-parameter-declared_type-requires t c = (omega (arith, c.decreases), (held_on c.base_type-r.ensures (held_on c.specifiers-s.ensures c.requires.held (ap specified c.in-Done.is)) (ap step c.in-Done-r.is), c.requires.readable))
+parameter-declared_type-requires t c = (omega (arith, c.decreases), (held_next c.in_ok-f.ensures (held_next c.in_ok-e.ensures c.requires.held), c.requires.readable))
 
 pub parameter-shape_of-w-in-Done-r : goal.parameter-shape_of-w-in-Done-r
 parameter-shape_of-w-in-Done-r t c = c.w-in-Done-r-1.given ∙ (c.w-in-Done-1.given ∙ c.w-1.given)
@@ -600,13 +598,13 @@ pub parameter-shape_of-v-in-Done-r : goal.parameter-shape_of-v-in-Done-r
 parameter-shape_of-v-in-Done-r t c = c.v-in-Done-r-1.given ∙ (c.v-in-Done-1.given ∙ c.v-1.given)
 
 pub parameter-returns-in-Done-r : goal.parameter-returns-in-Done-r
-parameter-returns-in-Done-r t c = record { run = λ t₁ h. by (parameter-made _ _ _ _) (call _ (c.specifiers-s.ensures.run t₁ h) (ap specified c.in-Done.is) (λ t₂ h₂. call _ (c.base_type-r.ensures.run t₂ h₂) (ap step c.in-Done-r.is) (λ t₃ h₃. c.declared_type.ensures.run t₃ h₃))) }
+parameter-returns-in-Done-r t c = record { run = λ t₁ h. by (parameter-made _ _ _ _) (next _ (c.in_ok-e.ensures.run t₁ h) (λ t₂ h₂. next _ (c.in_ok-f.ensures.run t₂ h₂) (λ t₃ h₃. c.declared_type.ensures.run t₃ h₃))) }
 
 pub parameter-returns-in-Refused-r : goal.parameter-returns-in-Refused-r
-parameter-returns-in-Refused-r t c = record { run = λ t₁ h. by (parameter-made _ _ _ _) (call _ (c.specifiers-s.ensures.run t₁ h) (ap specified c.in-Done.is) (λ t₂ h₂. refuse _ (c.base_type-r.ensures.run t₂ h₂) (ap step c.in-Refused-r.is) refl)) }
+parameter-returns-in-Refused-r t c = record { run = λ t₁ h. by (parameter-made _ _ _ _) (next _ (c.in_ok-e.ensures.run t₁ h) (λ t₂ h₂. exit REPLY _ (c.in_err-f.ensures.run t₂ h₂) c.from_residual.ensures.1 refl)) }
 
 pub parameter-returns-in-Refused : goal.parameter-returns-in-Refused
-parameter-returns-in-Refused t c = record { run = λ t₁ h. by (parameter-made _ _ _ _) (refuse _ (c.specifiers-s.ensures.run t₁ h) (ap specified c.in-Refused.is) refl) }
+parameter-returns-in-Refused t c = record { run = λ t₁ h. by (parameter-made _ _ _ _) (exit REPLY _ (c.in_err-e.ensures.run t₁ h) c.from_residual.ensures.1 refl) }
 
 pub parameters-overflow_cast-first : goal.parameters-overflow_cast-first
 parameters-overflow_cast-first t c = omega (arith, c.requires.held.room.parameters)
@@ -665,14 +663,14 @@ specifiers-returns-then-is_tag_word t c = record { run = λ t₁ h. turn (c.loop
 pub specifiers-returns-then-names_type : goal.specifiers-returns-then-names_type
 specifiers-returns-then-names_type t c = record { run = λ t₁ h. turn (c.loop-m.invariant.going t₁ h) (λ t₂ f l h₂. at_name _ _ _ _ _ _ c.kind_at-kind.ensures (sym c.is_word.ensures ∙ not-false _ c.if-not-is_word.false-raw) (sym c.says_no_type.ensures ∙ c.if-says_no_type.false) (sym c.is_type_word.ensures ∙ c.if-is_type_word.false) (sym c.is_tag_word.ensures ∙ c.if-is_tag_word.false) (sym c.names_type.ensures ∙ c.if-names_type.true) (got! h₂)) }
 
-pub specifiers-type_row-r-requires : goal.specifiers-type_row-r-requires
-specifiers-type_row-r-requires t c = (omega (arith, c.decreases), (c.loop-m.invariant.held, (c.requires.readable, words-inside c.kind_at-kind.ensures (sym c.is_word.ensures ∙ not-false _ c.if-not-is_word.false-raw))))
+pub specifiers-type_row-requires : goal.specifiers-type_row-requires
+specifiers-type_row-requires t c = (omega (arith, c.decreases), (c.loop-m.invariant.held, (c.requires.readable, words-inside c.kind_at-kind.ensures (sym c.is_word.ensures ∙ not-false _ c.if-not-is_word.false-raw))))
 
 pub specifiers-loop-m-smaller : goal.specifiers-loop-m-smaller
-specifiers-loop-m-smaller t c = past_row c.loop-m.invariant c.kind_at-kind.ensures (sym c.is_word.ensures ∙ not-false _ c.if-not-is_word.false-raw) c.type_row-r.ensures (ap step c.in-Done.is)
+specifiers-loop-m-smaller t c = past_row c.loop-m.invariant c.kind_at-kind.ensures (sym c.is_word.ensures ∙ not-false _ c.if-not-is_word.false-raw) c.in_ok-e.ensures refl
 
 pub specifiers-loop-m-preserved : goal.specifiers-loop-m-preserved
-specifiers-loop-m-preserved t c = next_row c.loop-m.invariant c.kind_at-kind.ensures (sym c.is_word.ensures ∙ not-false _ c.if-not-is_word.false-raw) c.type_row-r.ensures (ap step c.in-Done.is) (sym c.says_no_type.ensures ∙ c.if-says_no_type.false) (sym c.is_type_word.ensures ∙ c.if-is_type_word.false) (sym c.names_type.ensures ∙ c.if-names_type.false) c.based_on-p.ensures
+specifiers-loop-m-preserved t c = next_row c.loop-m.invariant c.kind_at-kind.ensures (sym c.is_word.ensures ∙ not-false _ c.if-not-is_word.false-raw) c.in_ok-e.ensures refl (sym c.says_no_type.ensures ∙ c.if-says_no_type.false) (sym c.is_type_word.ensures ∙ c.if-is_type_word.false) (sym c.names_type.ensures ∙ c.if-names_type.false) c.based_on-p.ensures
 
 pub specifiers-shape_of-w-in-Refused : goal.specifiers-shape_of-w-in-Refused
 specifiers-shape_of-w-in-Refused t c = c.w-1.given ∙ (c.loop-m.invariant.held.long.words ∙ sym c.requires.held.long.words)
@@ -684,7 +682,7 @@ pub specifiers-shape_of-v-in-Refused : goal.specifiers-shape_of-v-in-Refused
 specifiers-shape_of-v-in-Refused t c = c.v-1.given ∙ (c.loop-m.invariant.held.long.signeds ∙ sym c.requires.held.long.signeds)
 
 pub specifiers-returns-in-Refused : goal.specifiers-returns-in-Refused
-specifiers-returns-in-Refused t c = record { run = λ t₁ h. turn (c.loop-m.invariant.going t₁ h) (λ t₂ f l h₂. at_row _ _ _ _ _ _ c.kind_at-kind.ensures (sym c.is_word.ensures ∙ not-false _ c.if-not-is_word.false-raw) (sym c.says_no_type.ensures ∙ c.if-says_no_type.false) (sym c.is_type_word.ensures ∙ c.if-is_type_word.false) (sym c.names_type.ensures ∙ c.if-names_type.false) (refuse _ (c.type_row-r.ensures.run t₂ h₂) (ap step c.in-Refused.is) refl)) }
+specifiers-returns-in-Refused t c = record { run = λ t₁ h. turn (c.loop-m.invariant.going t₁ h) (λ t₂ f l h₂. at_row _ _ _ _ _ _ c.kind_at-kind.ensures (sym c.is_word.ensures ∙ not-false _ c.if-not-is_word.false-raw) (sym c.says_no_type.ensures ∙ c.if-says_no_type.false) (sym c.is_type_word.ensures ∙ c.if-is_type_word.false) (sym c.names_type.ensures ∙ c.if-names_type.false) (exit REPLY _ (c.in_err-e.ensures.run t₂ h₂) c.from_residual.ensures.1 refl)) }
 
 pub suffix-parameters-requires : goal.suffix-parameters-requires
 suffix-parameters-requires t c = (omega (arith, c.decreases), (c.requires.held, c.requires.readable))
@@ -693,20 +691,20 @@ pub suffix-returns-then-kind-eq-OPEN_PAREN : goal.suffix-returns-then-kind-eq-OP
 unfolding suffix_step
 suffix-returns-then-kind-eq-OPEN_PAREN t c = record { run = λ t₁ h. eq+ _ _ _ _ c.if-kind-eq-OPEN_PAREN.true (c.parameters.ensures.run t₁ h) }
 
-pub suffix-array_bound-b-requires : goal.suffix-array_bound-b-requires
-suffix-array_bound-b-requires t c = c.requires.held.room
+pub suffix-array_bound-requires : goal.suffix-array_bound-requires
+suffix-array_bound-requires t c = c.requires.held.room
 
 pub suffix-returns-in-Of : goal.suffix-returns-in-Of
 unfolding suffix_step
-suffix-returns-in-Of t c = record { run = λ t₁ h. eq- _ _ _ _ c.if-kind-eq-OPEN_PAREN.false (call _ ((c.array_bound-b.ensures.with _ _).run t₁ h) (ap bound c.in-Of.is) (λ t₂ h₂. got_as (array-kept (some _) c.bounded.ensures.kept) h₂)) }
+suffix-returns-in-Of t c = record { run = λ t₁ h. eq- _ _ _ _ c.if-kind-eq-OPEN_PAREN.false (next _ ((c.in_ok-e.ensures.with _ _).run t₁ h) (λ t₂ h₂. got_as (array-kept (some _) c.bounded.ensures.kept) h₂)) }
 
 pub suffix-returns-in-Open : goal.suffix-returns-in-Open
 unfolding suffix_step
-suffix-returns-in-Open t c = record { run = λ t₁ h. eq- _ _ _ _ c.if-kind-eq-OPEN_PAREN.false (call _ ((c.array_bound-b.ensures.with _ _).run t₁ h) (ap bound c.in-Open.is) (λ t₂ h₂. got_as (array-kept none c.unbounded.ensures.kept) h₂)) }
+suffix-returns-in-Open t c = record { run = λ t₁ h. eq- _ _ _ _ c.if-kind-eq-OPEN_PAREN.false (next _ ((c.in_ok-e.ensures.with _ _).run t₁ h) (λ t₂ h₂. got_as (array-kept none c.unbounded.ensures.kept) h₂)) }
 
 pub suffix-returns-in-Refused : goal.suffix-returns-in-Refused
 unfolding suffix_step
-suffix-returns-in-Refused t c = record { run = λ t₁ h. eq- _ _ _ _ c.if-kind-eq-OPEN_PAREN.false (refuse _ ((c.array_bound-b.ensures.with _ _).run t₁ h) (ap bound c.in-Refused.is) refl) }
+suffix-returns-in-Refused t c = record { run = λ t₁ h. eq- _ _ _ _ c.if-kind-eq-OPEN_PAREN.false (exit REPLY _ ((c.in_err-e.ensures.with _ _).run t₁ h) c.from_residual.ensures.1 refl) }
 
 pub suffixes-loop-m-init : goal.suffixes-loop-m-init
 suffixes-loop-m-init t c = suffixes-begin c.requires.held c.requires.waiting
@@ -741,17 +739,17 @@ suffixes-returns-then-is_full t c = full c.loop-m.invariant c.kind_at-kind.ensur
 pub suffixes-overflow_add-at-in-loop-m : goal.suffixes-overflow_add-at-in-loop-m
 suffixes-overflow_add-at-in-loop-m t c = omega (arith, c.requires.readable.few, suffix-there c.loop-m.invariant c.kind_at-kind.ensures (elim c.if-kind-ne-OPEN_BRACKET.branch [ suffixes-then-kind-ne-OPEN_BRACKET+else-kind-ne-OPEN_PAREN w ↦ inr w.if-kind-ne-OPEN_PAREN.false | suffixes-else-kind-ne-OPEN_BRACKET w ↦ inl w.if-kind-ne-OPEN_BRACKET.false ]))
 
-pub suffixes-suffix-r-requires : goal.suffixes-suffix-r-requires
-suffixes-suffix-r-requires t c = (omega (arith, c.decreases), (held_at c.moved.ensures c.loop-m.invariant.held, c.requires.readable))
+pub suffixes-suffix-requires : goal.suffixes-suffix-requires
+suffixes-suffix-requires t c = (omega (arith, c.decreases), (held_at c.moved.ensures c.loop-m.invariant.held, c.requires.readable))
 
 pub suffixes-push-t-requires : goal.suffixes-push-t-requires
 suffixes-push-t-requires t c = has_room _ c.is_full.ensures c.if-is_full.false
 
 pub suffixes-loop-m-smaller : goal.suffixes-loop-m-smaller
-suffixes-loop-m-smaller t c = suffixes-fewer c.loop-m.invariant c.kind_at-kind.ensures (elim c.if-kind-ne-OPEN_BRACKET.branch [ suffixes-then-kind-ne-OPEN_BRACKET+else-kind-ne-OPEN_PAREN w ↦ inr w.if-kind-ne-OPEN_PAREN.false | suffixes-else-kind-ne-OPEN_BRACKET w ↦ inl w.if-kind-ne-OPEN_BRACKET.false ]) c.is_full.ensures c.if-is_full.false _ c.moved.ensures c.suffix-r.ensures c.in-Done.is
+suffixes-loop-m-smaller t c = suffixes-fewer c.loop-m.invariant c.kind_at-kind.ensures (elim c.if-kind-ne-OPEN_BRACKET.branch [ suffixes-then-kind-ne-OPEN_BRACKET+else-kind-ne-OPEN_PAREN w ↦ inr w.if-kind-ne-OPEN_PAREN.false | suffixes-else-kind-ne-OPEN_BRACKET w ↦ inl w.if-kind-ne-OPEN_BRACKET.false ]) c.is_full.ensures c.if-is_full.false _ c.moved.ensures c.in_ok-e.ensures c.in-Done.is
 
 pub suffixes-loop-m-preserved : goal.suffixes-loop-m-preserved
-suffixes-loop-m-preserved t c = again c.loop-m.invariant c.kind_at-kind.ensures (elim c.if-kind-ne-OPEN_BRACKET.branch [ suffixes-then-kind-ne-OPEN_BRACKET+else-kind-ne-OPEN_PAREN w ↦ inr w.if-kind-ne-OPEN_PAREN.false | suffixes-else-kind-ne-OPEN_BRACKET w ↦ inl w.if-kind-ne-OPEN_BRACKET.false ]) c.is_full.ensures c.if-is_full.false _ c.moved.ensures c.suffix-r.ensures c.in-Done.is c.push-t.ensures
+suffixes-loop-m-preserved t c = again c.loop-m.invariant c.kind_at-kind.ensures (elim c.if-kind-ne-OPEN_BRACKET.branch [ suffixes-then-kind-ne-OPEN_BRACKET+else-kind-ne-OPEN_PAREN w ↦ inr w.if-kind-ne-OPEN_PAREN.false | suffixes-else-kind-ne-OPEN_BRACKET w ↦ inl w.if-kind-ne-OPEN_BRACKET.false ]) c.is_full.ensures c.if-is_full.false _ c.moved.ensures c.in_ok-e.ensures c.in-Done.is c.push-t.ensures
 
 pub suffixes-shape_of-w-in-Refused : goal.suffixes-shape_of-w-in-Refused
 suffixes-shape_of-w-in-Refused t c = c.w-1.given ∙ (c.loop-m.invariant.held.long.words ∙ sym c.requires.held.long.words)
@@ -763,7 +761,7 @@ pub suffixes-shape_of-v-in-Refused : goal.suffixes-shape_of-v-in-Refused
 suffixes-shape_of-v-in-Refused t c = c.v-1.given ∙ (c.loop-m.invariant.held.long.signeds ∙ sym c.requires.held.long.signeds)
 
 pub suffixes-returns-in-Refused : goal.suffixes-returns-in-Refused
-suffixes-returns-in-Refused t c = suffix-stop c.loop-m.invariant c.kind_at-kind.ensures (elim c.if-kind-ne-OPEN_BRACKET.branch [ suffixes-then-kind-ne-OPEN_BRACKET+else-kind-ne-OPEN_PAREN w ↦ inr w.if-kind-ne-OPEN_PAREN.false | suffixes-else-kind-ne-OPEN_BRACKET w ↦ inl w.if-kind-ne-OPEN_BRACKET.false ]) c.is_full.ensures c.if-is_full.false _ c.moved.ensures c.suffix-r.ensures c.in-Refused.is c.new-in-Refused.ensures
+suffixes-returns-in-Refused t c = suffix-stop c.loop-m.invariant c.kind_at-kind.ensures (elim c.if-kind-ne-OPEN_BRACKET.branch [ suffixes-then-kind-ne-OPEN_BRACKET+else-kind-ne-OPEN_PAREN w ↦ inr w.if-kind-ne-OPEN_PAREN.false | suffixes-else-kind-ne-OPEN_BRACKET w ↦ inl w.if-kind-ne-OPEN_BRACKET.false ]) c.is_full.ensures c.if-is_full.false _ c.moved.ensures c.in_ok-e.ensures c.in-Refused.is c.new-in-Refused.ensures
 
 pub tag_type-enumeration-requires : goal.tag_type-enumeration-requires
 tag_type-enumeration-requires t c = record { held = c.requires.held; names_fit = c.requires.readable.names }
@@ -786,27 +784,27 @@ pub type_row-returns-then-is_tag_word : goal.type_row-returns-then-is_tag_word
 type_row-returns-then-is_tag_word t c = record { run = λ t₁ h. by-tag _ _ _ _ c.kind_at-kind.ensures c.is_tag_word.ensures c.if-is_tag_word.true (step-on c.moved.ensures c.tag_type.ensures h) }
 
 pub type_row-returns-in_default : goal.type_row-returns-in_default
-type_row-returns-in_default t c = record { run = λ t₁ h. words-by_name _ _ _ _ c.kind_at-kind.ensures c.is_tag_word.ensures c.if-is_tag_word.false (fail _ (c.named_type-r.ensures.run t₁ h) (ap step c.in_default.is)) }
+type_row-returns-in_default t c = record { run = λ t₁ h. words-by_name _ _ _ _ c.kind_at-kind.ensures c.is_tag_word.ensures c.if-is_tag_word.false (exit REPLY _ (c.in_err-e.ensures.run t₁ h) c.from_residual.ensures.1 refl) }
 
 pub type_row-returns : goal.type_row-returns
-type_row-returns t c = record { run = λ t₁ h. words-by_name _ _ _ _ c.kind_at-kind.ensures c.is_tag_word.ensures c.if-is_tag_word.false (call _ (c.named_type-r.ensures.run t₁ h) (ap step c.in-Done.is) (λ t₂ h₂. got-at (past-name _ _ c.named_type-r.ensures c.requires.held (ap step c.in-Done.is) refl c.moved-2.ensures) h₂)) }
+type_row-returns t c = record { run = λ t₁ h. words-by_name _ _ _ _ c.kind_at-kind.ensures c.is_tag_word.ensures c.if-is_tag_word.false (next _ (c.in_ok-e.ensures.run t₁ h) (λ t₂ h₂. got-at (past-name _ _ c.in_ok-e.ensures c.requires.held refl refl c.moved-2.ensures) h₂)) }
 
 pub with_tag-returns-in_default : goal.with_tag-returns-in_default
 unfolding tagged_composite
-with_tag-returns-in_default t c = record { run = λ t₁ h. fail _ (c.tag_row-r.ensures.run t₁ h) (ap step c.in_default.is) }
+with_tag-returns-in_default t c = record { run = λ t₁ h. exit REPLY _ (c.in_err-e.ensures.run t₁ h) c.from_residual.ensures.1 refl }
 
 pub with_tag-returns-then-kind_at-ne-OPEN_BRACE : goal.with_tag-returns-then-kind_at-ne-OPEN_BRACE
 unfolding tagged_composite
-with_tag-returns-then-kind_at-ne-OPEN_BRACE t c = record { run = λ t₁ h. call _ (c.tag_row-r.ensures.run t₁ h) (ap step c.in-Done.is) (λ t₂ h₂. is- _ _ c.kind_at.ensures c.if-kind_at-ne-OPEN_BRACE.true (by refl (got! h₂))) }
+with_tag-returns-then-kind_at-ne-OPEN_BRACE t c = record { run = λ t₁ h. next _ (c.in_ok-e.ensures.run t₁ h) (λ t₂ h₂. is- _ _ c.kind_at.ensures c.if-kind_at-ne-OPEN_BRACE.true (by refl (got! h₂))) }
 
 pub with_tag-overflow_add-i : goal.with_tag-overflow_add-i
 with_tag-overflow_add-i t c = omega (arith, there c.kind_at.ensures c.if-kind_at-ne-OPEN_BRACE.false, c.requires.readable.few)
 
-pub with_tag-body-b-requires : goal.with_tag-body-b-requires
-with_tag-body-b-requires t c = (omega (arith, c.decreases), (held_at c.moved.ensures (held_on c.tag_row-r.ensures c.requires.held (ap step c.in-Done.is)), c.requires.readable))
+pub with_tag-body-requires : goal.with_tag-body-requires
+with_tag-body-requires t c = (omega (arith, c.decreases), (held_at c.moved.ensures (held_next c.in_ok-e.ensures c.requires.held), c.requires.readable))
 
 pub with_tag-define_body-requires : goal.with_tag-define_body-requires
-with_tag-define_body-requires t c = held_on c.body-b.ensures (held_at c.moved.ensures (held_on c.tag_row-r.ensures c.requires.held (ap step c.in-Done.is))) (ap laid c.in-Body.is)
+with_tag-define_body-requires t c = held_next c.in_ok-f.ensures (held_at c.moved.ensures (held_next c.in_ok-e.ensures c.requires.held))
 
 pub with_tag-shape_of-w-in-Body : goal.with_tag-shape_of-w-in-Body
 with_tag-shape_of-w-in-Body t c = c.w-in-Body-1.given ∙ (c.w-2-1.given ∙ c.w-1.given)
@@ -820,8 +818,8 @@ with_tag-shape_of-v-in-Body t c = c.v-in-Body-1.given ∙ (c.v-2-1.given ∙ c.v
 pub with_tag-returns-in-Body : goal.with_tag-returns-in-Body
 unfolding tagged_composite define_body
 with_tag-returns-in-Body t c = record {
-  run = λ t₁ h. call _ (c.tag_row-r.ensures.run t₁ h) (ap step c.in-Done.is) (λ t₂ h₂. is+ _ _ c.kind_at.ensures c.if-kind_at-ne-OPEN_BRACE.false
-      (call _ (step-on c.moved.ensures c.body-b.ensures h₂) (ap laid c.in-Body.is) (λ t₃ h₃. got! (c.define_body.ensures.run t₃ h₃))));
+  run = λ t₁ h. next _ (c.in_ok-e.ensures.run t₁ h) (λ t₂ h₂. is+ _ _ c.kind_at.ensures c.if-kind_at-ne-OPEN_BRACE.false
+      (next _ (step-on c.moved.ensures c.in_ok-f.ensures h₂) (λ t₃ h₃. got! (c.define_body.ensures.run t₃ h₃))));
 }
 
 pub with_tag-shape_of-w-in-Refused : goal.with_tag-shape_of-w-in-Refused
@@ -836,8 +834,8 @@ with_tag-shape_of-v-in-Refused t c = c.v-2-1.given ∙ c.v-1.given
 pub with_tag-returns-in-Refused : goal.with_tag-returns-in-Refused
 unfolding tagged_composite
 with_tag-returns-in-Refused t c = record {
-  run = λ t₁ h. call _ (c.tag_row-r.ensures.run t₁ h) (ap step c.in-Done.is) (λ t₂ h₂. is+ _ _ c.kind_at.ensures c.if-kind_at-ne-OPEN_BRACE.false
-      (refuse _ (step-on c.moved.ensures c.body-b.ensures h₂) (ap laid c.in-Refused.is) refl));
+  run = λ t₁ h. next _ (c.in_ok-e.ensures.run t₁ h) (λ t₂ h₂. is+ _ _ c.kind_at.ensures c.if-kind_at-ne-OPEN_BRACE.false
+      (exit REPLY _ (step-on c.moved.ensures c.in_err-f.ensures h₂) c.from_residual.ensures.1 refl));
 }
 
 pub without_tag-returns-then-kind_at-ne-OPEN_BRACE : goal.without_tag-returns-then-kind_at-ne-OPEN_BRACE
@@ -847,16 +845,16 @@ without_tag-returns-then-kind_at-ne-OPEN_BRACE t c = record { run = λ t₁ h. i
 pub without_tag-overflow_add-at : goal.without_tag-overflow_add-at
 without_tag-overflow_add-at t c = omega (arith, there c.kind_at.ensures c.if-kind_at-ne-OPEN_BRACE.false, c.requires.readable.few)
 
-pub without_tag-body-b-requires : goal.without_tag-body-b-requires
-without_tag-body-b-requires t c = (omega (arith, c.decreases), (held_at c.moved.ensures c.requires.held, c.requires.readable))
+pub without_tag-body-requires : goal.without_tag-body-requires
+without_tag-body-requires t c = (omega (arith, c.decreases), (held_at c.moved.ensures c.requires.held, c.requires.readable))
 
 pub without_tag-add_body-requires : goal.without_tag-add_body-requires
-without_tag-add_body-requires t c = (held_on c.body-b.ensures (held_at c.moved.ensures c.requires.held) (ap laid c.in-Body.is), first_fits _ _ _ _ _ c.body-b.ensures (held_at c.moved.ensures c.requires.held) (ap laid c.in-Body.is))
+without_tag-add_body-requires t c = (held_next c.in_ok-f.ensures (held_at c.moved.ensures c.requires.held), first_fits _ _ _ _ _ c.in_ok-f.ensures (held_at c.moved.ensures c.requires.held) refl)
 
 pub without_tag-returns-in-Body : goal.without_tag-returns-in-Body
 unfolding untagged_composite
-without_tag-returns-in-Body t c = record { run = λ t₁ h. is+ _ _ c.kind_at.ensures c.if-kind_at-ne-OPEN_BRACE.false (call _ (step-on c.moved.ensures c.body-b.ensures h) (ap laid c.in-Body.is) (λ t₂ h₂. c.add_body.ensures.run t₂ h₂)) }
+without_tag-returns-in-Body t c = record { run = λ t₁ h. is+ _ _ c.kind_at.ensures c.if-kind_at-ne-OPEN_BRACE.false (next _ (step-on c.moved.ensures c.in_ok-f.ensures h) (λ t₂ h₂. c.add_body.ensures.run t₂ h₂)) }
 
 pub without_tag-returns-in-Refused : goal.without_tag-returns-in-Refused
 unfolding untagged_composite
-without_tag-returns-in-Refused t c = record { run = λ t₁ h. is+ _ _ c.kind_at.ensures c.if-kind_at-ne-OPEN_BRACE.false (refuse _ (step-on c.moved.ensures c.body-b.ensures h) (ap laid c.in-Refused.is) refl) }
+without_tag-returns-in-Refused t c = record { run = λ t₁ h. is+ _ _ c.kind_at.ensures c.if-kind_at-ne-OPEN_BRACE.false (exit REPLY _ (step-on c.moved.ensures c.in_err-f.ensures h) c.from_residual.ensures.1 refl) }

@@ -42,7 +42,7 @@ use Prim.Native.Nat.{ℕ, ◌<◌}
 use Prim.Native.Nat.{◌+◌, ◌*◌}
 use Rattle.table.proofs.Branch.{yes!, nay! }
 use Rattle.table.proofs.Shown.{call, refuse, held, held_at, held_on, step-on}
-use Rattle.table.specs.Reply.{step}
+use Rattle.table.specs.Reply.{reply}
 use Prim.Native.Nat.{◌+◌}
 use Rattle.table.specs.Held.{state, moved_to}
 use Rattle.definition.specs.Declarator.{parameters_from}

@@ -7,6 +7,6 @@ pub returns-then-kind-eq-TYPEDEF_KIND : goal.returns-then-kind-eq-TYPEDEF_KIND
 unfolding bound_of
 returns-then-kind-eq-TYPEDEF_KIND c = sym (ap (λ z. bound_of z c.args.noted) (eq-eqb _ 10 c.if-kind-eq-TYPEDEF_KIND.true))
 
-pub returns : goal.returns
+pub returns-else-kind-eq-TYPEDEF_KIND : goal.returns-else-kind-eq-TYPEDEF_KIND
 unfolding bound_of
-returns c = sym (ap (λ z. bound_of z c.args.noted) (ne_eqb _ 10 c.if-kind-eq-TYPEDEF_KIND.false))
+returns-else-kind-eq-TYPEDEF_KIND c = sym (ap (λ z. bound_of z c.args.noted) (ne_eqb _ 10 c.if-kind-eq-TYPEDEF_KIND.false))

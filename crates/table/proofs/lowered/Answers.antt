@@ -6,5 +6,5 @@ use Rattle.table.proofs.lowered.Goals as goal
 pub returns-then-kind-eq-TYPEDEF_KIND : goal.returns-then-kind-eq-TYPEDEF_KIND
 returns-then-kind-eq-TYPEDEF_KIND c = name_lowered _ _ _ c.requires.0 c.sooner.ensures (omega (arith, c.sooner.ensures.here, c.requires.1)) _ (eq-eqb _ _ c.if-kind-eq-TYPEDEF_KIND.true)
 
-pub returns : goal.returns
-returns c = tag_lowered _ _ _ c.requires.0 c.sooner-2.ensures _ (ne_eqb _ _ c.if-kind-eq-TYPEDEF_KIND.false)
+pub returns-else-kind-eq-TYPEDEF_KIND : goal.returns-else-kind-eq-TYPEDEF_KIND
+returns-else-kind-eq-TYPEDEF_KIND c = tag_lowered _ _ _ c.requires.0 c.sooner-else-kind-eq-TYPEDEF_KIND.ensures _ (ne_eqb _ _ c.if-kind-eq-TYPEDEF_KIND.false)

@@ -1,9 +1,5 @@
-use native.Mathlib.Omega.{arith}
-use Rattle.table.proofs.Columns.{member_wide_past, member_wide_read}
+use Rattle.table.proofs.Columns.{place_entry}
 use Rattle.table.proofs.member_wide.Goals as goal
 
-pub returns-then-i-ge-MAX_MEMBERS : goal.returns-then-i-ge-MAX_MEMBERS
-returns-then-i-ge-MAX_MEMBERS c = record { of = λ t h. member_wide_past h _ c.args.column c.if-i-ge-MAX_MEMBERS.true }
-
 pub returns : goal.returns
-returns c = record { of = λ t h. member_wide_read c.number_at.ensures h _ _ c.if-i-ge-MAX_MEMBERS.false c.requires (omega arith) }
+returns c = place_entry c.number.ensures c.requires

@@ -1,8 +1,5 @@
-use Rattle.table.proofs.Leaves.{parameter_rowed, parameter-past}
+use Rattle.table.proofs.Leaves.{parameter_row_is}
 use Rattle.table.proofs.set_parameter_row.Goals as goal
 
-pub returns-then-i-c : goal.returns-then-i-c
-returns-then-i-c c = record { with = λ d v. record { run = λ t h. parameter_rowed h _ _ c.if-i-c.true } }
-
-pub returns-else-i-c : goal.returns-else-i-c
-returns-else-i-c c = record { with = λ d v. record { run = λ t h. parameter-past h _ _ c.if-i-c.false } }
+pub returns : goal.returns
+returns c = record { with = λ d v. record { run = λ t h. parameter_row_is h c.set_first.ensures } }
