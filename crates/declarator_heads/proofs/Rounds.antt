@@ -9,6 +9,8 @@ use borrow.Author.Tests.{leb-false}
 use lib.Dec.{leb}
 use lib.IntN.{ℤ}
 use lib.ListN.{length}
+use Rattle.std.specs.Prelude.{Ok, Err}
+use Rattle.encoding.specs.declared.refusals.Reason.TheVariants.{LimitPassed}
 use Rattle.definition.specs.Answer.{Answer, got, refused}
 use Rattle.definition.specs.Kind.{star}
 use Rattle.definition.specs.Limit.{max_steps}
@@ -22,7 +24,6 @@ use Rattle.table.specs.Ends.{Ends}
 use Rattle.table.specs.Held.{state, moved_to, Encodes}
 use Rattle.table.specs.Reply.{Peek}
 use Rattle.table.specs.declared.Cursor.{Cursor}
-use Rattle.table.specs.declared.Step.TheVariants.{Done, Refused}
 use Rattle.table.proofs.Branch.{by, via, halt}
 use Rattle.lemmas.proofs.Branch.{yes, nay}
 use Rattle.table.proofs.Rounds.{Going, turn, starts, starts-at}
@@ -32,7 +33,6 @@ use Rattle.declarator_steps.specs.declared.Steps.{Steps}
 use Rattle.declarator_steps.specs.Pending.{pending, with_star, Room}
 use Rattle.declarator_steps.proofs.Views.{hold_counts}
 use Rattle.skipping.specs.Passing.{tokens, standing}
-use Rattle.declarator_heads.specs.declared.Declared.{Declared}
 use Rattle.declarator_heads.specs.Heads.{stars_here, Holds, Stars}
 
 -- the rounds from a state on, after the stars that were read
@@ -71,25 +71,25 @@ module _ {ks : List ℕ} {c : Cursor} {s : Steps} {here : Cursor} {t : Steps} (g
   count u = omega (arith, u, g.holds.held, g.holds.len)
 
   -- no star stands here
-  pub ended : {r : Declared} {k : ℕ} → Peek ks here.at k → (k ≡ star → ⊥) → r ≡ record { answer = Done here 0; steps = t } → Stars ks c s r
+  pub ended : {k : ℕ} → Peek ks here.at k → (k ≡ star → ⊥) → Stars ks c s (record { answer = Ok here; steps = t })
   unfolding stars_from
-  ended p n e = rw e (record {
+  ended p n = record {
     read = g.read;
     holds = g.holds;
     does = λ ns w d v used u. record { run = λ b h. turn (g.going ns w d v used u b h) (λ b₁ f l h₁. is- _ _ p n (got! h₁)) };
-  })
+  }
 
   module _ {k : ℕ} {full : Bool} (p : Peek ks here.at k) (e : k ≡ star) (q : full ≡ leb max_steps (t.held + t.len)) where
     -- one stands here, and there is no room for it
-    pub stopped : {r : Declared} → full ≡ true → r ≡ record { answer = Refused limit_passed (here.at + 1); steps = t } → Stars ks c s r
+    pub stopped : full ≡ true → Stars ks c s (record { answer = Err (record { reason = LimitPassed; at = here.at + 1 }); steps = t })
     unfolding stars_from
-    stopped y x = rw x (record {
+    stopped y = record {
       read = g.read;
       holds = g.holds;
       does = λ ns w d v used u. record {
         run = λ b h. turn (g.going ns w d v used u b h) (λ b₁ f l h₁. is+ _ _ p e (halt _ (full_is _ _ (ap (leb max_steps) (count u) ∙ (sym q ∙ y))) (no! h refl)));
       };
-    })
+    }
 
     -- one stands here, with what it is followed by
     module _ {q' : Qualifiers} {next : ℕ} {here' : Cursor} (n : full ≡ false)

@@ -28,6 +28,7 @@ pub struct Starred {
 }
 
 // The stars, with their qualifiers, held until what they stand before is read.
+#[tactic(auto, using(crate::proofs::Rounds::begin, crate::proofs::Rounds::has_room, crate::proofs::Rounds::ended, crate::proofs::Rounds::stopped))]
 pub fn stars(kinds: &[u32], c: Cursor, s: Steps) -> Starred
     requires { s.len + s.held ≤ max_steps }
     ensures { Stars kinds.now c s result }
@@ -56,6 +57,7 @@ pub fn stars(kinds: &[u32], c: Cursor, s: Steps) -> Starred
 }
 
 // A parenthesis opens a declarator, and not a parameter list, before `*`, `(` or a word that names no type.
+#[tactic(auto, unfolding(definition::specs::Declarator::opens_declarator, words::specs::Meaning::known))]
 pub fn opens_declarator(kinds: &[u32], numbers: &[u64], w: &[u32], c: Cursor, m: Model) -> bool
     requires room { Room c }
     requires names_fit { NamesFit kinds.now numbers.now }
@@ -76,6 +78,7 @@ pub fn opens_declarator(kinds: &[u32], numbers: &[u64], w: &[u32], c: Cursor, m:
 }
 
 // A name without a bound or a parameter list after it: a declarator that takes no steps.
+#[tactic(auto, using(crate::proofs::Plain::names), unfolding(crate::specs::Heads::is_plain))]
 pub fn is_plain(kinds: &[u32], at: usize) -> bool
     ensures { result ≡ is_plain kinds.now at }
 {
@@ -87,6 +90,7 @@ pub fn is_plain(kinds: &[u32], at: usize) -> bool
 }
 
 // One star with its qualifiers before such a name.
+#[tactic(auto, unfolding(crate::specs::Heads::is_plain_pointer))]
 pub fn is_plain_pointer(kinds: &[u32], at: usize) -> bool
     ensures { result ≡ is_plain_pointer kinds.now at }
 {

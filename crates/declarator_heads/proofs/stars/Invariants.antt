@@ -1,9 +1,6 @@
-use native.Mathlib.Omega.{arith}
-use borrow.Author.Rules.{rules}
 use lib.ListN.{length}
 use Prim.Native.Nat.{◌-◌}
-use Rattle.table.proofs.Steps.{there}
-use Rattle.declarator_heads.proofs.Rounds.{Reading, begin, has_room, ended, stopped, less, again}
+use Rattle.declarator_heads.proofs.Rounds.{Reading}
 use Rattle.declarator_heads.proofs.stars.Given as goal
 
 abbrev pub invariant-loop-here : goal.invariant-loop-here
