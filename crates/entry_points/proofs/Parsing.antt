@@ -7,6 +7,9 @@ use native.Mathlib.Omega.{arith}
 use lib.Dec.{leb}
 use lib.IntN.{ℤ}
 use lib.ListN.{length, get_or}
+use Rattle.std.specs.Prelude.{Result, Ok, Err, MatchResult, IsErrAnd}
+use Rattle.encoding.specs.Refusals.{number_of, answer}
+use Rattle.encoding.specs.declared.refusals.Refusal.{Refusal}
 use Rattle.definition.specs.Answer.{Answer, got, refused, ◌>>=◌}
 use Rattle.definition.specs.Limit.{max_names}
 use Rattle.definition.specs.Refusal.{not_one_declaration}
@@ -17,7 +20,7 @@ use Rattle.definition.specs.Reader.{declaration, declarations_from, optional_sem
 use Rattle.definition.specs.NameTable.{name_table}
 use Rattle.definition.specs.Entry as meant
 use Rattle.table.specs.Held.{state, Counts as Counted, Encodes, Long, Left as Remains}
-use Rattle.table.specs.Reply.{Peek, Moves, ok, bad, none}
+use Rattle.table.specs.Reply.{Peek, Moves, ok, bad, none, reply_alone}
 use Rattle.table.specs.declared.Cursor.{Cursor}
 use Rattle.lemmas.proofs.Branch.{eq_yes, eq_no, le_yes, le_no}
 use Rattle.table.proofs.Shown.{long, room, left, went, said, leaves}
@@ -78,21 +81,41 @@ module _ (ks ps ns : List ℕ) (end : ℕ) (m : Model) where
   unfolding meant.parse one_declaration lone_declaration in_text ◌>>=◌
   one_no n i e = rw e
 
+  -- a refusal at a token, with its offset in the place of the token's
+  abbrev pub placed : Refusal → Refusal
+  placed y = record { reason = y.reason; at = here x y.at }
+
+  -- what the parser answered, with its refusal placed
+  abbrev pub Placed : Result Cursor Refusal → Result Cursor Refusal → Type 0
+  Placed r₀ r = MatchResult r₀ (λ c. r ≡ Ok c) (λ y. IsErrAnd r (λ z. z ≡ placed y))
+
   module _ {w d w' d' : List ℕ} {v v' : List ℤ} (e : Encodes new_table first_cursor w d v) where
-    pub header_done : (c : Cursor) → Moves whole_from first_cursor w d v (ok c none) w' d' v' → Parses (meant.parse meant.wholeHeader x m) (got c) w' d' v'
+    header_done : (c : Cursor) → Moves whole_from first_cursor w d v (ok c none) w' d' v' → Parses (meant.parse meant.wholeHeader x m) (got c) w' d' v'
     header_done c g = let h = went (g.run new_table e) refl in done h.table c (header_got _ h.says) refl h.holds
 
-    pub header_refused : (n i p : ℕ) → Moves whole_from first_cursor w d v (bad n i) w' d' v' → p ≡ here x i → Parses (meant.parse meant.wholeHeader x m) (refused n p) w' d' v'
-    header_refused n i p g h = let f = (g.run new_table e).ends in stop n p (header_no n i (said f refl) ∙ ap (λ (z : ℕ). refused n z) (sym h)) refl (leaves f refl)
+    header_refused : (n i : ℕ) → Moves whole_from first_cursor w d v (bad n i) w' d' v' → Parses (meant.parse meant.wholeHeader x m) (refused n (here x i)) w' d' v'
+    header_refused n i g = let f = (g.run new_table e).ends in stop n (here x i) (header_no n i (said f refl)) refl (leaves f refl)
 
-    pub one-done : (c : Cursor) → Moves lone_from first_cursor w d v (ok c none) w' d' v' → c.declarations ≤ 1 → Parses (meant.parse meant.singleDeclaration x m) (got c) w' d' v'
-    one-done c g p = let h = went (g.run new_table e) refl in done h.table c (one-got _ h.says (omega (arith, h.holds.counts.declarations))) refl h.holds
+    pub header : (r₀ r : Result Cursor Refusal) → Placed r₀ r → Moves whole_from first_cursor w d v (reply_alone r₀) w' d' v' → Parses (meant.parse meant.wholeHeader x m) (answer r) w' d' v'
+    header (Ok c) r q g = rw q (header_done c g)
+    header (Err y) (Ok c) q g = absurd q
+    header (Err y) (Err z) q g = rw q (header_refused (number_of y.reason) y.at g)
 
-    pub one_too_many : (c : Cursor) → Moves lone_from first_cursor w d v (ok c none) w' d' v' → 1 < c.declarations → Parses (meant.parse meant.singleDeclaration x m) (refused 24 0) w' d' v'
-    one_too_many c g p = let h = went (g.run new_table e) refl in stop 24 0 (one-many _ h.says (omega (arith, h.holds.counts.declarations))) refl (left h.holds)
+    -- one declaration: the counts, once it was read
+    lone : (r₀ : Result Cursor Refusal) (c : Cursor) → Placed r₀ (Ok c) → Moves lone_from first_cursor w d v (reply_alone r₀) w' d' v' → Moves lone_from first_cursor w d v (ok c none) w' d' v'
+    lone (Ok c₀) c q g = let i : c₀ ≡ c = cc in rw i at g
+    lone (Err y) c q g = absurd q
 
-    pub one-refused : (n i p : ℕ) → Moves lone_from first_cursor w d v (bad n i) w' d' v' → p ≡ here x i → Parses (meant.parse meant.singleDeclaration x m) (refused n p) w' d' v'
-    one-refused n i p g h = let f = (g.run new_table e).ends in stop n p (one_no n i (said f refl) ∙ ap (λ (z : ℕ). refused n z) (sym h)) refl (leaves f refl)
+    module _ (r₀ : Result Cursor Refusal) (g : Moves lone_from first_cursor w d v (reply_alone r₀) w' d' v') where
+      pub one-done : (c : Cursor) → Placed r₀ (Ok c) → c.declarations ≤ 1 → Parses (meant.parse meant.singleDeclaration x m) (got c) w' d' v'
+      one-done c q p = let h = went ((lone r₀ c q g).run new_table e) refl in done h.table c (one-got _ h.says (omega (arith, h.holds.counts.declarations))) refl h.holds
+
+      pub one_too_many : (c : Cursor) → Placed r₀ (Ok c) → 1 < c.declarations → Parses (meant.parse meant.singleDeclaration x m) (refused 24 0) w' d' v'
+      one_too_many c q p = let h = went ((lone r₀ c q g).run new_table e) refl in stop 24 0 (one-many _ h.says (omega (arith, h.holds.counts.declarations))) refl (left h.holds)
+
+    pub one-refused : (r₀ : Result Cursor Refusal) (z : Refusal) → Placed r₀ (Err z) → Moves lone_from first_cursor w d v (reply_alone r₀) w' d' v' → Parses (meant.parse meant.singleDeclaration x m) (answer (Err z)) w' d' v'
+    one-refused (Ok c) z q g = let o : ◌≡◌ {A = ℕ} 0 1 = cc in absurd (omega arith)
+    one-refused (Err y) z q g = let f = (g.run new_table e).ends in rw q (stop (number_of y.reason) (here x y.at) (one_no _ _ (said f refl)) refl (leaves f refl))
 
 -- ---- what was parsed, with its names
 

@@ -33,12 +33,15 @@ use Rattle.lemmas.proofs.Branch.{yes, nay}
 use Rattle.spellings.specs.Chain.{HeadCount, few, many}
 use Rattle.name_table.specs.Striking.{PlacesBelow}
 use Rattle.lexer.specs.Columns as columns
+use Rattle.encoding.specs.Refusals.{number_of, answer}
+use Rattle.encoding.specs.declared.refusals.Refusal.{Refusal}
+use Rattle.std.specs.Prelude.{Result, Ok, Err, MatchResult, IsErrAnd}
 use Rattle.entry_points.specs.declared.Counts.{Counts}
+use Rattle.entry_points.specs.declared.Rejection.{Rejection}
 use Rattle.clearing.specs.Slices.{lent}
 use Rattle.entry_points.proofs.Front.{fresh-front, front_zeros, front-filled}
-use Rattle.entry_points.specs.Answers.{lexed, first_cursor, Read, read_tokens, Scratch, FitsIf, Asked, Cleared, as_long, concluded, Told, Rejected, rejected_at, out, shown, answered, Answers}
+use Rattle.entry_points.specs.Answers.{lexed, first_cursor, Read, read_tokens, Scratch, FitsIf, Asked, Cleared, as_long, Told, Accepted, Rejected, told, rejected_at, out, shown, answered, Answers}
 use Rattle.entry_points.specs.Answers as answers
-use Rattle.entry_points.specs.declared.Reading.TheVariants.{Refused}
 
 -- ---- the tokens of a text
 
@@ -189,6 +192,18 @@ pub front-fresh : (w d : List ℕ) (v : List ℤ) → Cleared w d v → Enough w
 front-fresh w d v c h = fresh-front c.of w d v c.is (long c.of w d v c.is h)
 
 -- ---- what is told
+
+-- what is told after a reading
+abbrev pub concluded : Bytes → Answer Counts → Told
+concluded text (got c) = Accepted c
+concluded text (refused n p) = rejected_at text n p
+
+-- its refusal is told with its line and column
+pub concludes : (text : Bytes) (r : Result Counts Refusal) (o : Result Counts Rejection) → MatchResult r (λ c. o ≡ Ok c) (λ e. IsErrAnd o (λ z. told (Err z) ≡ rejected_at text (number_of e.reason) e.at))
+    → told o ≡ concluded text (answer r)
+concludes text (Ok c) o q = rw q
+concludes text (Err e) (Ok c) q = absurd q
+concludes text (Err e) (Err z) q = q
 
 pub reject_is : (text : Bytes) (n at : ℕ) (s : Spot) → place s ≡ place_of text at → Rejected n at s.line s.column ≡ rejected_at text n at
 reject_is text n at s e = ap (λ (p : Place). Rejected n at p.line p.column) e

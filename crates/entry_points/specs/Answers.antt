@@ -118,11 +118,6 @@ told (Err e) = Rejected (number_of e.reason) e.offset e.line e.column
 abbrev pub rejected_at : Bytes → ℕ → ℕ → Told
 rejected_at text n at = Rejected n at (place_of text at).line (place_of text at).column
 
--- what is told after a reading
-abbrev pub concluded : Bytes → Answer Counts → Told
-concluded text (got c) = Accepted c
-concluded text (refused n p) = rejected_at text n p
-
 -- what the caller is told, and what stands in the slices then
 pub data Out : Type 0 where
   out : Told → Lent → Out

@@ -1,6 +1,6 @@
 #![tactic(auto)]
 // The two entries on texts: `translation_unit` and `declaration`, over slices that the caller lends.
-ghost use Rattle.std.specs.Prelude.{◌≡◌, ◌+◌, ◌*◌, ◌≤◌, length};
+ghost use Rattle.std.specs.Prelude.{◌≡◌, ◌+◌, ◌*◌, ◌≤◌, length, Err};
 ghost use Rattle.definition.specs.Limit.{max_text};
 ghost use Rattle.definition.specs.Token.{here};
 ghost use Rattle.definition.specs.Entry.{parse, read_with, wholeHeader, singleDeclaration};
@@ -13,7 +13,7 @@ ghost use Rattle.spellings.specs.Chain.{HeadCount};
 ghost use Rattle.clearing.specs.Slices.{lent};
 ghost use Rattle.definition.specs.Lent.{long_enough};
 ghost use Rattle.entry_points.specs.Walking.{Walkable};
-ghost use Rattle.entry_points.specs.Answers.{entry_of, lexed, first_cursor, counts_from, Parses, Read, Reads, Scratch, FitsIf, Asked, Cleared, as_long, concluded, told, rejected_at, out, answered, Answers};
+ghost use Rattle.entry_points.specs.Answers.{entry_of, lexed, first_cursor, counts_from, Parses, Read, Reads, Scratch, FitsIf, Asked, Cleared, as_long, told, rejected_at, out, answered, Answers};
 ghost use Rattle.encoding.specs.Refusals.{number_of, answer};
 
 use clearing::clear;
@@ -102,6 +102,22 @@ fn first_cursor() -> Cursor
     }
 }
 
+// A refusal at a token, at its offset in the text.
+fn in_text(
+    kinds: &[u32],
+    places: &[u32],
+    numbers: &[u64],
+    end: usize,
+    e: Refusal,
+) -> Refusal
+    ensures { result ≡ record { reason = e.reason; at = here (lexed kinds.now places.now numbers.now end) e.at } }
+{
+    Refusal {
+        at: offset_of(kinds, places, numbers, end, e.at),
+        ..e
+    }
+}
+
 // A whole header; a refusal names an offset.
 fn parse_header(
     kinds: &[u32],
@@ -117,13 +133,8 @@ fn parse_header(
     requires encodes { Encodes new_table first_cursor w.old d.old v.old }
     ensures { Parses (parse (entry_of Entry.WholeHeader) (lexed kinds.now places.now numbers.now end) (model m)) (answer result) w.new d.new v.new }
 {
-    match declarations(kinds, numbers, w, d, v, first_cursor(), m) {
-        Ok(c) => Ok(c),
-        Err(e) => Err(Refusal {
-            reason: e.reason,
-            at: offset_of(kinds, places, numbers, end, e.at),
-        }),
-    }
+    declarations(kinds, numbers, w, d, v, first_cursor(), m)
+        .map_err(|e| in_text(kinds, places, numbers, end, e))
 }
 
 // One declaration, of one name at most.
@@ -141,21 +152,15 @@ fn parse_declaration(
     requires encodes { Encodes new_table first_cursor w.old d.old v.old }
     ensures { Parses (parse (entry_of Entry.SingleDeclaration) (lexed kinds.now places.now numbers.now end) (model m)) (answer result) w.new d.new v.new }
 {
-    match lone_declaration(kinds, numbers, w, d, v, first_cursor(), m) {
-        Ok(c) => {
-            if c.declarations <= 1 {
-                return Ok(c);
-            }
-            Err(Refusal {
-                reason: Reason::NotOneDeclaration,
-                at: 0,
-            })
-        }
-        Err(e) => Err(Refusal {
-            reason: e.reason,
-            at: offset_of(kinds, places, numbers, end, e.at),
-        }),
+    let c = lone_declaration(kinds, numbers, w, d, v, first_cursor(), m)
+        .map_err(|e| in_text(kinds, places, numbers, end, e))?;
+    if c.declarations <= 1 {
+        return Ok(c);
     }
+    Err(Refusal {
+        reason: Reason::NotOneDeclaration,
+        at: 0,
+    })
 }
 
 fn parse_tokens(
@@ -328,16 +333,16 @@ fn read_asked(
 
 // ---- the entries
 
-fn reject(text: &[u8], e: Refusal) -> Outcome
-    ensures { told result ≡ rejected_at text.now (number_of e.reason) e.at }
+fn reject(text: &[u8], e: Refusal) -> Rejection
+    ensures { told (Err result) ≡ rejected_at text.now (number_of e.reason) e.at }
 {
     let spot = line_column(text, e.at);
-    Err(Rejection {
+    Rejection {
         reason: e.reason,
         offset: e.at,
         line: spot.line,
         column: spot.column,
-    })
+    }
 }
 
 // As long as the limits ask.
@@ -345,16 +350,6 @@ fn long_enough(words: usize, wides: usize, signeds: usize) -> bool
     ensures { result ≡ as_long words wides signeds }
 {
     WORDS <= words && WIDES <= wides && SIGNEDS <= signeds
-}
-
-// What the caller is told.
-fn conclude(text: &[u8], reading: Result<Counts, Refusal>) -> Outcome
-    ensures { told result ≡ concluded text.now (answer reading) }
-{
-    match reading {
-        Ok(counts) => Ok(counts),
-        Err(e) => reject(text, e),
-    }
 }
 
 // In slices that are zero throughout, of any length: the table stands in their front. An unknown number of a model and slices that are too short are refused first.
@@ -374,10 +369,10 @@ fn read(
         at: 0,
     };
     let Some(m) = Model::numbered(number) else {
-        return reject(text, bad_call);
+        return Err(reject(text, bad_call));
     };
     if !long_enough(w.len(), d.len(), v.len()) {
-        return reject(text, bad_call);
+        return Err(reject(text, bad_call));
     }
     let r = read_asked(
         entry,
@@ -388,7 +383,7 @@ fn read(
         &mut d[..WIDES],
         &mut v[..SIGNEDS],
     );
-    conclude(text, r)
+    r.map_err(|e| reject(text, e))
 }
 
 // A whole header.

@@ -1,3 +1,2 @@
 pub mod Under
 pub mod Doing
-pub mod Valued

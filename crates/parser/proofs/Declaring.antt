@@ -10,6 +10,12 @@ use borrow.Author.Tests.{leb-true, leb-false, eqb-true}
 use lib.Dec.{eqb, leb}
 use lib.IntN.{ℤ}
 use lib.ListN.{length}
+use Rattle.std.specs.Prelude.{Result, Ok, Err}
+use Rattle.std.specs.Result.{IsErrAnd}
+use Rattle.std.proofs.lemmas.Result.{err_from_is_err_and}
+use Rattle.encoding.specs.Refusals.{number_of}
+use Rattle.encoding.specs.declared.refusals.Refusal.{Refusal}
+use Rattle.encoding.specs.declared.refusals.Reason.TheVariants.{MissingMark, LimitPassed}
 use Rattle.definition.specs.Answer.{Answer, got, refused, ◌>>=◌}
 use Rattle.definition.specs.Refusal.{too_deep, missing_mark, limit_passed}
 use Rattle.definition.specs.Limit.{max_steps}
@@ -19,7 +25,7 @@ use Rattle.definition.specs.Token.{Tokens, kind_at, left}
 use Rattle.definition.specs.Model.{Model}
 use Rattle.definition.specs.Row.{Qualifiers}
 use Rattle.definition.specs.Table.{Table, State, Reads, skip}
-use Rattle.definition.specs.Grammar.{Declarator, named, Levels, needed}
+use Rattle.definition.specs.Grammar.{Declarator, DeclaratorStep, named, Levels, needed}
 use Rattle.definition.specs.Grammar as Grammar
 use Rattle.definition.specs.Declarator.{apply, starred, opens_declarator, suffixes, suffixes_from, declarator₁, direct₁}
 use Rattle.definition.specs.Reader.{levels}
@@ -29,29 +35,26 @@ use Rattle.definition_laws.proofs.Every.{bool!, then! }
 use Rattle.definition_laws.proofs.Every as Every
 use Rattle.table.specs.Ends.{Ends}
 use Rattle.table.specs.Held.{state, moved_to, Encodes, Held}
-use Rattle.table.specs.Reply.{Reply, ok, bad, step, Shows, both, Runs, Does, Peek}
+use Rattle.table.specs.Reply.{Reply, ok, bad, reply, reply_by, Shows, both, Runs, Does, Peek}
 use Rattle.table.specs.declared.Cursor.{Cursor}
-use Rattle.table.specs.declared.Step.{Step}
-use Rattle.table.specs.declared.Step.TheVariants.{Done, Refused}
 use Rattle.table.proofs.Branch.{by, yes!, nay! }
 use Rattle.lemmas.proofs.Branch.{yes, nay}
 use Rattle.table.proofs.Rounds.{Going, starts, turn}
-use Rattle.table.proofs.Shown.{got!, no!, call, refuse, held_at, held_on, step-on}
+use Rattle.table.proofs.Shown.{got!, no!, call, next, exit, refuse, held_at, held_on, held_next, step-on}
 use Rattle.table.proofs.Steps.{there, ate, missed}
 use Rattle.constants.specs.Reading.{tokens}
 use Rattle.declarator_steps.specs.declared.Steps.{Steps}
 use Rattle.declarator_steps.specs.declared.Step.{Step as Kept}
 use Rattle.declarator_steps.specs.Pending.{step_of, steps_from, pending, no_steps, with_step, released, Waiting}
 use Rattle.declarator_steps.proofs.Views.{length-steps, length-stars, len_is, held-is, none-pending, push-counts, release_counts}
-use Rattle.parameter_entries.specs.declared.Suffix.{Suffix}
-use Rattle.parameter_entries.specs.declared.Suffix.TheVariants.{Done as Suffix-as-Done, Refused as Suffix-as-Refused}
-use Rattle.parameter_entries.specs.Parameters.{suffix}
-use Rattle.declarator_heads.specs.declared.Declared.{Declared}
+use Rattle.declarator_heads.specs.declared.Starred.{Starred}
 use Rattle.declarator_heads.specs.Heads.{stars, stars_here, Stars, Tells}
 use Rattle.declarator_heads.proofs.Waiting.{released-read}
 use Rattle.declarator_heads.proofs.Opens.{shut}
-use Rattle.parser.specs.Answers.{both_numbers, declarator_of, declaring, Starting, Declares}
+use Rattle.parser.specs.Answers.{typed, both_numbers, declarator_of, declared, Starting, Declares}
 use Rattle.parser.specs.Pieces.{suffix_step, typed_from}
+use Rattle.parser.specs.declared.Declared.{Declared}
+use Rattle.parser.specs.declared.Typed.{Typed}
 use Rattle.parser.proofs.Goes.{past}
 use Rattle.parser.proofs.Made.{no_suffix, full_bracket, full_parenthesis, bracket_made, parenthesis_made}
 
@@ -61,32 +64,30 @@ use Rattle.parser.proofs.Made.{no_suffix, full_bracket, full_parenthesis, bracke
 pub got_as : {X : Type 0} {x y : X} {t : Table} {c : Cursor} {w d : List ℕ} {v : List ℤ} → x ≡ y → Encodes t c w d v → Shows both (got (y, state c t)) (ok c x) w d v
 got_as e h = rw e (got! h)
 
--- the declarator that a call declared
-pub declared_is : (r : Declared) {e : Cursor} {name : ℕ} → r.answer ≡ Done e name → declaring r.answer r.steps ≡ ok e (declarator_of r.steps name)
-declared_is r q = ap (λ a. declaring a r.steps) q
-
-pub refused-is : (r : Declared) {n p : ℕ} → r.answer ≡ Refused n p → declaring r.answer r.steps ≡ bad n p
-refused-is r q = ap (λ a. declaring a r.steps) q
-
-unlike : {A : Type 0} {a : Step} {e : Cursor} {name n p : ℕ} → a ≡ Refused n p → a ≡ Done e name → A
-unlike q z = let o : ◌≡◌ {A = ℕ} 0 1 = cc in absurd (omega arith)
+-- what a declarator's answer is: its cursor and itself, or a refusal
+abbrev pub Answered : Type 0
+Answered = Result (Cursor × Declared) Refusal
 
 -- a declarator that is refused: nothing is said of its steps
-pub stops : {f : Reads Declarator} {c : Cursor} {s : Steps} {w d w' d' : List ℕ} {v v' : List ℤ} {r : Declared} {n p : ℕ} → r.answer ≡ Refused n p
-    → ((t : Table) → Encodes t c w d v → Shows both (f (state c t)) (bad n p) w' d' v') → Declares f c s w d v r w' d' v'
-stops {f} {c} {w' = w'} {d'} {v' = v'} {r} q k = record {
-  does = record { run = λ t h. subst (λ (z : Reply Declarator). Shows both (f (state c t)) z w' d' v') (sym (refused-is r q)) (k t h) };
-  stars = λ e name z. unlike q z;
-  waits = λ e name z. unlike q z;
-}
+unlike : {A : Type 0} {z : Refusal} {y : Cursor × Declared} → ◌≡◌ {A = Answered} (Err z) (Ok y) → A
+unlike q = let o : ◌≡◌ {A = ℕ} 0 1 = cc in absurd (omega arith)
+
+pub stops : {f : Reads Declarator} {c : Cursor} {s : Steps} {w d w' d' : List ℕ} {v v' : List ℤ} (z : Refusal)
+    → ((t : Table) → Encodes t c w d v → Shows both (f (state c t)) (bad (number_of z.reason) z.at) w' d' v') → Declares f c s w d v (Err z) w' d' v'
+stops z k = record { does = record { run = k }; stars = λ e x q. unlike q; waits = λ e x q. unlike q }
+
+-- the same at a `?`
+pub stopped : {f : Reads Declarator} {c : Cursor} {s : Steps} {w d w' d' : List ℕ} {v v' : List ℤ} {r : Answered} {z : Refusal} → IsErrAnd r (λ y. y ≡ z)
+    → ((t : Table) → Encodes t c w d v → Shows both (f (state c t)) (bad (number_of z.reason) z.at) w' d' v') → Declares f c s w d v r w' d' v'
+stopped {r = r} {z} q k = let x = err_from_is_err_and r q in rw (x.1, x.2) (stops z k)
 
 -- one that is declared: what the slices hold, and how many steps there can be
-module _ {f : Reads Declarator} {c e : Cursor} {s : Steps} {w d w' d' : List ℕ} {v v' : List ℤ} {r : Declared} {name : ℕ} (g : Declares f c s w d v r w' d' v') (q : r.answer ≡ Done e name) where
+module _ {f : Reads Declarator} {c e : Cursor} {s : Steps} {w d w' d' : List ℕ} {v v' : List ℤ} {x : Declared} (g : Declares f c s w d v (Ok (e, x)) w' d' v') where
   pub declared_held : Held c w d v → Held e w' d' v'
-  declared_held h = held_on g.does h (declared_is r q)
+  declared_held h = held_next g.does h
 
-  pub declared_few : r.steps.len ≤ max_steps
-  declared_few = omega (arith, (g.waits e name q).apart)
+  pub declared_few : x.steps.len ≤ max_steps
+  declared_few = omega (arith, (g.waits e x refl).apart)
 
 -- ---- what is pending
 
@@ -124,31 +125,31 @@ module _ (ts : Tokens) (m : Model) {room : ℕ} (used : ℕ) (s : State) where
 
 -- ---- `declared_type`
 
-module _ (next : Levels) (b : ℕ) {c : Cursor} {s : Steps} {w d w' d' : List ℕ} {v v' : List ℤ} {r : Declared} (e : s ≡ no_steps)
-    (g : Declares (next.declarator s.held) c s w d v r w' d' v') where
-  first : Does (next.declarator 0) c w d v (declaring r.answer r.steps) w' d' v'
-  first = subst (λ (i : ℕ). Does (next.declarator i) c w d v (declaring r.answer r.steps) w' d' v') (held-is s (none-pending e)) g.does
+module _ (inner : Levels) (b : ℕ) {c : Cursor} {s : Steps} {w d w' d' : List ℕ} {v v' : List ℤ} (e : s ≡ no_steps) where
+  first : {r : Answered} → Declares (inner.declarator s.held) c s w d v r w' d' v' → Does (inner.declarator 0) c w d v (reply_by declared r) w' d' v'
+  first {r} g = subst (λ (i : ℕ). Does (inner.declarator i) c w d v (reply_by declared r) w' d' v') (held-is s (none-pending e)) g.does
 
-  pub typed-stop : {n p : ℕ} → r.answer ≡ Refused n p → Runs both_numbers (typed_from next b) c w d v (bad n p) w' d' v'
+  pub typed-stop : {z : Refusal} {r : Result (Cursor × Typed) Refusal} → Declares (inner.declarator s.held) c s w d v (Err z) w' d' v' → IsErrAnd r (λ y. y ≡ z)
+      → Runs both_numbers (typed_from inner b) c w d v (reply_by typed r) w' d' v'
   unfolding typed_from
-  typed-stop q = record { run = λ t h. refuse _ (first.run t h) (refused-is r q) refl }
+  typed-stop g q = record { run = λ t h. exit (reply_by typed) _ ((first g).run t h) q refl }
 
-  module _ {f : Cursor} {name : ℕ} (q : r.answer ≡ Done f name) where
-    module _ {w'' d'' : List ℕ} {v'' : List ℤ} {x : Step} (a : Does (apply (pending r.steps).steps b) f w' d' v' (step x) w'' d'' v'') where
-      pub typed-refused : {n p : ℕ} → x ≡ Refused n p → Runs both_numbers (typed_from next b) c w d v (bad n p) w'' d'' v''
-      unfolding typed_from
-      typed-refused z = record { run = λ t h. call _ (first.run t h) (declared_is r q) (λ t₁ h₁. refuse _ (a.run t₁ h₁) (ap step z) refl) }
+  module _ {f : Cursor} {x : Declared} (g : Declares (inner.declarator s.held) c s w d v (Ok (f, x)) w' d' v') {w'' d'' : List ℕ} {v'' : List ℤ} where
+    pub typed-refused : {z : Refusal} {r : Result (Cursor × Typed) Refusal} → Does (apply (pending x.steps).steps b) f w' d' v' (bad (number_of z.reason) z.at) w'' d'' v'' → IsErrAnd r (λ y. y ≡ z)
+        → Runs both_numbers (typed_from inner b) c w d v (reply_by typed r) w'' d'' v''
+    unfolding typed_from
+    typed-refused a q = record { run = λ t h. next _ ((first g).run t h) (λ t₁ h₁. exit (reply_by typed) _ (a.run t₁ h₁) q refl) }
 
-      pub typed-done : {e' : Cursor} {type : ℕ} → x ≡ Done e' type → Runs both_numbers (typed_from next b) c w d v (ok e' (type, name)) w'' d'' v''
-      unfolding typed_from
-      typed-done z = record { run = λ t h. call _ (first.run t h) (declared_is r q) (λ t₁ h₁. call _ (a.run t₁ h₁) (ap step z) (λ t₂ h₂. got! h₂)) }
+    pub typed-done : {e' : Cursor} {type : ℕ} → Does (apply (pending x.steps).steps b) f w' d' v' (ok e' type) w'' d'' v'' → Runs both_numbers (typed_from inner b) c w d v (ok e' (type, x.name)) w'' d'' v''
+    unfolding typed_from
+    typed-done a = record { run = λ t h. next _ ((first g).run t h) (λ t₁ h₁. next _ (a.run t₁ h₁) (λ t₂ h₂. got! h₂)) }
 
 -- ---- `declarator`
 
-pub stars_starting : {ks : List ℕ} {c : Cursor} {s : Steps} {t : Declared} → Starting s → Stars ks c s t → Starting t.steps
+pub stars_starting : {ks : List ℕ} {c : Cursor} {s : Steps} {t : Starred} → Starting s → Stars ks c s t → Starting t.steps
 stars_starting o g = record { none = g.holds.len ∙ o.none; waiting = g.holds.waiting }
 
-pub stars-held : {ks : List ℕ} {c e : Cursor} {s : Steps} {t : Declared} {w d : List ℕ} {v : List ℤ} {k : ℕ} → Stars ks c s t → t.answer ≡ Done e k → Held c w d v → Held e w d v
+pub stars-held : {ks : List ℕ} {c e : Cursor} {s : Steps} {t : Starred} {w d : List ℕ} {v : List ℤ} → Stars ks c s t → t.answer ≡ Ok e → Held c w d v → Held e w d v
 stars-held {s = s} {w = w} {d} {v} g q h = held_on (g.does [] w d v (s.held + s.len) refl) h (ap (stars g.read) q)
 
 -- no stars
@@ -162,67 +163,68 @@ unfolding ◌>>=◌ starred
 before-none (got d) e = rw e
 before-none (refused n p) e = refl
 
-module _ (ks ns : List ℕ) (m : Model) (room : ℕ) {c : Cursor} {s : Steps} (w d : List ℕ) (v : List ℤ) (o : Starting s) (z : room ≡ 0 → ⊥) {t : Declared} (g : Stars ks c s t) where
+module _ (ks ns : List ℕ) (m : Model) (room : ℕ) {c : Cursor} {s : Steps} (w d : List ℕ) (v : List ℤ) (o : Starting s) (z : room ≡ 0 → ⊥) {t : Starred} (g : Stars ks c s t) where
   read-stars : Does (stars_here (tokens ks ns) s.held) c w d v (stars g.read t.answer) w d v
   read-stars = g.does ns w d v s.held (omega (arith, o.none))
 
-  pub stars-stop : {n p : ℕ} → t.answer ≡ Refused n p → Declares ((levels (tokens ks ns) m room).declarator s.held) c s w d v t w d v
+  pub stars-stop : {i : Refusal} {r : Answered} → t.answer ≡ Err i → IsErrAnd r (λ y. y ≡ i) → Declares ((levels (tokens ks ns) m room).declarator s.held) c s w d v r w d v
   unfolding declarator₁
-  stars-stop q = stops q (λ b h. by (a-declarator (tokens ks ns) m s.held (state c b) z) (refuse _ (read-stars.run b h) (ap (stars g.read) q) refl))
+  stars-stop q j = stopped j (λ b h. by (a-declarator (tokens ks ns) m s.held (state c b) z) (refuse _ (read-stars.run b h) (ap (stars g.read) q) refl))
 
-  module _ {e : Cursor} {k : ℕ} (q : t.answer ≡ Done e k) where
-    module _ {w' d' : List ℕ} {v' : List ℤ} {r : Declared} (f : Declares ((levels (tokens ks ns) m (room - 1)).direct t.steps.held) e t.steps w d v r w' d' v') where
-      rest : Does ((levels (tokens ks ns) m (room - 1)).direct (s.held + length g.read)) e w d v (declaring r.answer r.steps) w' d' v'
-      rest = subst (λ (i : ℕ). Does ((levels (tokens ks ns) m (room - 1)).direct i) e w d v (declaring r.answer r.steps) w' d' v') g.holds.held f.does
+  module _ {e : Cursor} (q : t.answer ≡ Ok e) {w' d' : List ℕ} {v' : List ℤ} where
+    rest : {r : Answered} → Declares ((levels (tokens ks ns) m (room - 1)).direct t.steps.held) e t.steps w d v r w' d' v'
+        → Does ((levels (tokens ks ns) m (room - 1)).direct (s.held + length g.read)) e w d v (reply_by declared r) w' d' v'
+    rest {r} f = subst (λ (i : ℕ). Does ((levels (tokens ks ns) m (room - 1)).direct i) e w d v (reply_by declared r) w' d' v') g.holds.held f.does
 
-      pub direct-stop : {n p : ℕ} → r.answer ≡ Refused n p → Declares ((levels (tokens ks ns) m room).declarator s.held) c s w d v r w' d' v'
-      unfolding declarator₁
-      direct-stop y = stops y (λ b h. by (a-declarator (tokens ks ns) m s.held (state c b) z)
-          (call _ (read-stars.run b h) (ap (stars g.read) q) (λ b₁ h₁. refuse _ (rest.run b₁ h₁) (refused-is r y) refl)))
+    pub direct-stop : {i : Refusal} {r : Answered} → Declares ((levels (tokens ks ns) m (room - 1)).direct t.steps.held) e t.steps w d v (Err i) w' d' v' → IsErrAnd r (λ y. y ≡ i)
+        → Declares ((levels (tokens ks ns) m room).declarator s.held) c s w d v r w' d' v'
+    unfolding declarator₁
+    direct-stop f j = stopped j (λ b h. by (a-declarator (tokens ks ns) m s.held (state c b) z)
+        (call _ (read-stars.run b h) (ap (stars g.read) q) (λ b₁ h₁. refuse _ ((rest f).run b₁ h₁) refl refl)))
 
+    module _ {e' : Cursor} {x : Declared} (f : Declares ((levels (tokens ks ns) m (room - 1)).direct t.steps.held) e t.steps w d v (Ok (e', x)) w' d' v') where
       -- no star was read
       module _ (y : t.steps.held ≡ s.held) where
         none_read : g.read ≡ []
         none_read = no_length g.read (omega (arith, g.holds.held, y))
 
-        pub unstarred : Declares ((levels (tokens ks ns) m room).declarator s.held) c s w d v r w' d' v'
+        pub unstarred : Declares ((levels (tokens ks ns) m room).declarator s.held) c s w d v (Ok (e', x)) w' d' v'
         unfolding declarator₁
         unstarred = record {
           does = record {
             run = λ b h. by (a-declarator (tokens ks ns) m s.held (state c b) z)
-                (call _ (read-stars.run b h) (ap (stars g.read) q) (λ b₁ h₁. by (before-none _ none_read) (rest.run b₁ h₁)));
+                (call _ (read-stars.run b h) (ap (stars g.read) q) (λ b₁ h₁. by (before-none _ none_read) ((rest f).run b₁ h₁)));
           };
-          stars = λ e₁ n₁ k₁. f.stars e₁ n₁ k₁ ∙ (ap (λ p. p.stars) g.holds.all ∙ ap (λ l. l ++ (pending s).stars) none_read);
-          waits = λ e₁ n₁ k₁. subst (λ (i : ℕ). Waiting r.steps i) y (f.waits e₁ n₁ k₁);
+          stars = λ e₁ x₁ k₁. f.stars e₁ x₁ k₁ ∙ (ap (λ p. p.stars) g.holds.all ∙ ap (λ l. l ++ (pending s).stars) none_read);
+          waits = λ e₁ x₁ k₁. subst (λ (i : ℕ). Waiting x₁.steps i) y (f.waits e₁ x₁ k₁);
         }
 
-      module _ {e' : Cursor} {name : ℕ} (y : r.answer ≡ Done e' name) where
-        -- the stars that were read wait, and can be released
-        pub stars_wait : Waiting r.steps (t.steps.held - s.held)
-        stars_wait = record { stars = omega (arith, (f.waits e' name y).stars); apart = (f.waits e' name y).apart }
+      -- the stars that were read wait, and can be released
+      pub stars_wait : Waiting x.steps (t.steps.held - s.held)
+      stars_wait = record { stars = omega (arith, (f.waits e' x refl).stars); apart = (f.waits e' x refl).apart }
 
-        module _ (u : Steps) (l : pending u ≡ released (t.steps.held - s.held) (pending r.steps)) where
-          all : pending u ≡ record { steps = starred g.read (pending r.steps).steps; stars = (pending s).stars }
-          all = l ∙ released-read (pending r.steps) g.holds (f.stars e' name y)
+      module _ (u : Steps) (l : pending u ≡ released (t.steps.held - s.held) (pending x.steps)) where
+        all : pending u ≡ record { steps = starred g.read (pending x.steps).steps; stars = (pending s).stars }
+        all = l ∙ released-read (pending x.steps) g.holds (f.stars e' x refl)
 
-          still : Waiting u s.held
-          still =
-              let n = release_counts u r.steps (t.steps.held - s.held) stars_wait.stars l in
-              record {
-                stars = omega (arith, n.1, g.holds.held, (f.waits e' name y).stars);
-                apart = omega (arith, n.0, n.1, (f.waits e' name y).apart);
-              }
+        still : Waiting u s.held
+        still =
+            let n = release_counts u x.steps (t.steps.held - s.held) stars_wait.stars l in
+            record {
+              stars = omega (arith, n.1, g.holds.held, (f.waits e' x refl).stars);
+              apart = omega (arith, n.0, n.1, (f.waits e' x refl).apart);
+            }
 
-          pub direct-done : {a : Step} {x : Declared} → a ≡ Done e' name → x ≡ record { answer = a; steps = u } → Declares ((levels (tokens ks ns) m room).declarator s.held) c s w d v x w' d' v'
-          unfolding declarator₁
-          direct-done j i = rw (i, j) (record {
-            does = record {
-              run = λ b h. by (a-declarator (tokens ks ns) m s.held (state c b) z) (call _ (read-stars.run b h) (ap (stars g.read) q)
-                  (λ b₁ h₁. call _ (rest.run b₁ h₁) (declared_is r y) (λ b₂ h₂. got_as (ap (λ p. record { steps = p.steps; name = name }) all) h₂)));
-            };
-            stars = λ e'' name'' k''. ap (λ p. p.stars) all;
-            waits = λ e'' name'' k''. still;
-          })
+        pub direct-done : Declares ((levels (tokens ks ns) m room).declarator s.held) c s w d v (Ok (e', record { name = x.name; steps = u })) w' d' v'
+        unfolding declarator₁
+        direct-done = record {
+          does = record {
+            run = λ b h. by (a-declarator (tokens ks ns) m s.held (state c b) z) (call _ (read-stars.run b h) (ap (stars g.read) q)
+                (λ b₁ h₁. next _ ((rest f).run b₁ h₁) (λ b₂ h₂. got_as (ap (λ p. record { steps = p.steps; name = x.name }) all) h₂)));
+          };
+          stars = λ e₁ x₁ k₁. let i : x₁.steps ≡ u = cc in ap (λ a. (pending a).stars) i ∙ ap (λ p. p.stars) all;
+          waits = λ e₁ x₁ k₁. let i : x₁.steps ≡ u = cc in rw i still;
+        }
 
 -- ---- `direct`
 
@@ -239,7 +241,7 @@ after_none : (ts : Tokens) (m : Model) (next : Levels) (s : Steps) → Starting 
 after_none ts m next s o n name x e = ap (λ (y : Declarator). suffixes ts m next s.held y x) (sym (no_steps_lem s n o.none ∙ ap named e))
 
 module _ (ks ns : List ℕ) (m : Model) (room : ℕ) {c : Cursor} {s : Steps} {w d : List ℕ} {v : List ℤ} (o : Starting s) (z : room ≡ 0 → ⊥) where
-  pub by_name : {c' : Cursor} {r : Declared} {name : ℕ} {w' d' : List ℕ} {v' : List ℤ} → is_name (kind_at (tokens ks ns) c.at) ≡ true → Peek ns c.at name → c' ≡ moved_to c (c.at + 1)
+  pub by_name : {c' : Cursor} {r : Answered} {name : ℕ} {w' d' : List ℕ} {v' : List ℤ} → is_name (kind_at (tokens ks ns) c.at) ≡ true → Peek ns c.at name → c' ≡ moved_to c (c.at + 1)
       → Declares (suffixes (tokens ks ns) m (levels (tokens ks ns) m (room - 1)) s.held (declarator_of s name)) c' s w d v r w' d' v'
       → Declares ((levels (tokens ks ns) m room).direct s.held) c s w d v r w' d' v'
   unfolding direct₁
@@ -250,7 +252,7 @@ module _ (ks ns : List ℕ) (m : Model) (room : ℕ) {c : Cursor} {s : Steps} {w
   }
 
   module _ (i : is_name (kind_at (tokens ks ns) c.at) ≡ false) {x : Bool} (q : Tells (λ t. opens_declarator (tokens ks ns) m (state c t)) c w x) where
-    pub by-nothing : {r : Declared} {w' d' : List ℕ} {v' : List ℤ} → x ≡ false
+    pub by-nothing : {r : Answered} {w' d' : List ℕ} {v' : List ℤ} → x ≡ false
         → Declares (suffixes (tokens ks ns) m (levels (tokens ks ns) m (room - 1)) s.held (declarator_of s no_name)) c s w d v r w' d' v'
         → Declares ((levels (tokens ks ns) m room).direct s.held) c s w d v r w' d' v'
     unfolding direct₁
@@ -272,35 +274,30 @@ module _ (ks ns : List ℕ) (m : Model) (room : ℕ) {c : Cursor} {s : Steps} {w
       unfolding direct₁
       inner-is b h = a-direct (tokens ks ns) m s.held (state c b) z ∙ (nay _ _ _ i ∙ yes _ _ _ (sym (q.of b h.words h.index h.counts) ∙ e))
 
-      module _ {c' : Cursor} {t : Declared} {w₁ d₁ : List ℕ} {v₁ : List ℤ} (k : c' ≡ moved_to c (c.at + 1))
-          (g : Declares ((levels (tokens ks ns) m (room - 1)).declarator s.held) c' s w d v t w₁ d₁ v₁) where
-        pub inner-stop : {n p : ℕ} → t.answer ≡ Refused n p → Declares ((levels (tokens ks ns) m room).direct s.held) c s w d v t w₁ d₁ v₁
-        inner-stop y = stops y (λ b h. by (inner-is b h) (refuse _ (step-on k g.does h) (refused-is t y) refl))
+      module _ {c' : Cursor} {w₁ d₁ : List ℕ} {v₁ : List ℤ} (k : c' ≡ moved_to c (c.at + 1)) where
+        pub inner-stop : {j : Refusal} {r : Answered} → Declares ((levels (tokens ks ns) m (room - 1)).declarator s.held) c' s w d v (Err j) w₁ d₁ v₁ → IsErrAnd r (λ y. y ≡ j)
+            → Declares ((levels (tokens ks ns) m room).direct s.held) c s w d v r w₁ d₁ v₁
+        inner-stop g y = stopped y (λ b h. by (inner-is b h) (refuse _ (step-on k g.does h) refl refl))
 
-        module _ {e' : Cursor} {name j : ℕ} (y : t.answer ≡ Done e' name) (p : Peek ks e'.at j) where
-          pub not_closed_lem : {r : Declared} {u : Steps} → (j ≡ close_paren → ⊥) → r ≡ record { answer = Refused missing_mark e'.at; steps = u }
-              → Declares ((levels (tokens ks ns) m room).direct s.held) c s w d v r w₁ d₁ v₁
-          not_closed_lem n l = stops (ap (λ a. a.answer) l) (λ b h. by (inner-is b h) (call _ (step-on k g.does h) (declared_is t y)
-              (λ b₁ h₁. missed (tokens ks ns) (state e' b₁) _ p n (no! h₁ refl))))
+        module _ {e' : Cursor} {t : Declared} {j : ℕ} (g : Declares ((levels (tokens ks ns) m (room - 1)).declarator s.held) c' s w d v (Ok (e', t)) w₁ d₁ v₁) (p : Peek ks e'.at j) where
+          pub not_closed_lem : (j ≡ close_paren → ⊥) → Declares ((levels (tokens ks ns) m room).direct s.held) c s w d v (Err (record { reason = MissingMark; at = e'.at })) w₁ d₁ v₁
+          not_closed_lem n = stops _ (λ b h. by (inner-is b h) (next _ (step-on k g.does h) (λ b₁ h₁. missed (tokens ks ns) (state e' b₁) _ p n (no! h₁ refl))))
 
-          pub closed : {e'' : Cursor} {r : Declared} {w' d' : List ℕ} {v' : List ℤ} → j ≡ close_paren → e'' ≡ moved_to e' (e'.at + 1)
-              → Declares (suffixes (tokens ks ns) m (levels (tokens ks ns) m (room - 1)) t.steps.held (declarator_of t.steps name)) e'' t.steps w₁ d₁ v₁ r w' d' v'
+          pub closed : {e'' : Cursor} {r : Answered} {w' d' : List ℕ} {v' : List ℤ} → j ≡ close_paren → e'' ≡ moved_to e' (e'.at + 1)
+              → Declares (suffixes (tokens ks ns) m (levels (tokens ks ns) m (room - 1)) t.steps.held (declarator_of t.steps t.name)) e'' t.steps w₁ d₁ v₁ r w' d' v'
               → Declares ((levels (tokens ks ns) m room).direct s.held) c s w d v r w' d' v'
           closed {e''} {r} {w'} {d'} {v'} l k' f =
-              let n : t.steps.held ≡ s.held = same-held t.steps s (g.stars e' name y) in
-              let a = subst (λ (i : ℕ). Does (suffixes (tokens ks ns) m (levels (tokens ks ns) m (room - 1)) i (declarator_of t.steps name)) e'' w₁ d₁ v₁ (declaring r.answer r.steps) w' d' v') n f.does in
+              let n : t.steps.held ≡ s.held = same-held t.steps s (g.stars e' t refl) in
+              let a = subst (λ (i : ℕ). Does (suffixes (tokens ks ns) m (levels (tokens ks ns) m (room - 1)) i (declarator_of t.steps t.name)) e'' w₁ d₁ v₁ (reply_by declared r) w' d' v') n f.does in
               record {
-                does = record {
-                  run = λ b h. by (inner-is b h) (call _ (step-on k g.does h) (declared_is t y) (λ b₁ h₁. ate (tokens ks ns) (state e' b₁) _ p l (step-on k' a h₁)));
-                };
-                stars = λ a₁ b₁ j₁. f.stars a₁ b₁ j₁ ∙ g.stars e' name y;
-                waits = λ a₁ b₁ j₁. subst (λ (i : ℕ). Waiting r.steps i) n (f.waits a₁ b₁ j₁);
+                does = record { run = λ b h. by (inner-is b h) (next _ (step-on k g.does h) (λ b₁ h₁. ate (tokens ks ns) (state e' b₁) _ p l (step-on k' a h₁))) };
+                stars = λ a₁ b₁ j₁. f.stars a₁ b₁ j₁ ∙ g.stars e' t refl;
+                waits = λ a₁ b₁ j₁. subst (λ (i : ℕ). Waiting b₁.steps i) n (f.waits a₁ b₁ j₁);
               }
 
 -- the stars that waited before a declarator in parentheses wait after it
-pub declared_waits : {f : Reads Declarator} {c e : Cursor} {s : Steps} {w d w' d' : List ℕ} {v v' : List ℤ} {r : Declared} {name : ℕ} → Declares f c s w d v r w' d' v' → r.answer ≡ Done e name
-    → Waiting r.steps r.steps.held
-declared_waits {e = e} {name = name} g q = record { stars = le_refl _; apart = (g.waits e name q).apart }
+pub declared_waits : {f : Reads Declarator} {c e : Cursor} {s : Steps} {w d w' d' : List ℕ} {v v' : List ℤ} {x : Declared} → Declares f c s w d v (Ok (e, x)) w' d' v' → Waiting x.steps x.steps.held
+declared_waits {e = e} {x = x} g = record { stars = le_refl _; apart = (g.waits e x refl).apart }
 
 -- ---- `suffixes`
 
@@ -331,15 +328,15 @@ module _ {ks ns : List ℕ} {m : Model} {room name : ℕ} {c : Cursor} {s : Step
   count = omega (arith, same-held t s g.stars, length-steps t.kinds t.operands t.len)
 
   -- no suffix stands here
-  pub ended : {k : ℕ} {r : Declared} → Peek ks here.at k → (k ≡ open_bracket → ⊥) → (k ≡ open_paren → ⊥) → r ≡ record { answer = Done here name; steps = t }
-      → Declares (suffixes (tokens ks ns) m (levels (tokens ks ns) m room) s.held (declarator_of s name)) c s w₀ d₀ v₀ r w d v
-  ended p a b e = rw e (record {
+  pub ended : {k : ℕ} → Peek ks here.at k → (k ≡ open_bracket → ⊥) → (k ≡ open_paren → ⊥)
+      → Declares (suffixes (tokens ks ns) m (levels (tokens ks ns) m room) s.held (declarator_of s name)) c s w₀ d₀ v₀ (Ok (here, record { name = name; steps = t })) w d v
+  ended p a b = record {
     does = record {
       run = λ x h. turn (g.going x h) (λ x₁ f l h₁. by (no_suffix (tokens ks ns) m (levels (tokens ks ns) m room) f s.held (declarator_of t name) (state here x₁) (λ q. a (p.is ∙ q)) (λ q. b (p.is ∙ q))) (got! h₁));
     };
-    stars = λ e₁ n₁ q₁. g.stars;
-    waits = λ e₁ n₁ q₁. record { stars = omega (arith, same-held t s g.stars); apart = g.apart };
-  })
+    stars = λ e₁ x₁ q₁. let i : x₁.steps ≡ t = cc in ap (λ y. (pending y).stars) i ∙ g.stars;
+    waits = λ e₁ x₁ q₁. let i : x₁.steps ≡ t = cc in rw i (record { stars = omega (arith, same-held t s g.stars); apart = g.apart });
+  }
 
   module _ {k : ℕ} (p : Peek ks here.at k) (a : (k ≡ open_bracket) ⊎ (k ≡ open_paren)) where
     pub suffix-there : here.at < length ks
@@ -360,30 +357,29 @@ module _ {ks ns : List ℕ} {m : Model} {room name : ℕ} {c : Cursor} {s : Step
     made-is f x i (inr e) h = parenthesis_made (tokens ks ns) m (levels (tokens ks ns) m room) f s.held (declarator_of t name) x (i ∙ e) (omega (arith, count, h))
 
     module _ {x : Bool} (q : x ≡ leb max_steps (t.held + t.len)) where
-      pub full : {r : Declared} → x ≡ true → r ≡ record { answer = Refused limit_passed (here.at + 1); steps = t }
-          → Declares (suffixes (tokens ks ns) m (levels (tokens ks ns) m room) s.held (declarator_of s name)) c s w₀ d₀ v₀ r w d v
-      full e i = stops (ap (λ y. y.answer) i) (λ b h. turn (g.going b h) (λ b₁ f l h₁. by (full_is f (state here b₁) (sym p.is) a (leb-true max_steps (t.held + t.len) (sym q ∙ e))) (no! h₁ refl)))
+      pub full : x ≡ true → Declares (suffixes (tokens ks ns) m (levels (tokens ks ns) m room) s.held (declarator_of s name)) c s w₀ d₀ v₀ (Err (record { reason = LimitPassed; at = here.at + 1 })) w d v
+      full e = stops _ (λ b h. turn (g.going b h) (λ b₁ f l h₁. by (full_is f (state here b₁) (sym p.is) a (leb-true max_steps (t.held + t.len) (sym q ∙ e))) (no! h₁ refl)))
 
       module _ (e : x ≡ false) where
         low : t.held + t.len < max_steps
         low = leb-false max_steps (t.held + t.len) (sym q ∙ e)
 
-        module _ {c' : Cursor} (r : Suffix) {w' d' : List ℕ} {v' : List ℤ} (i : c' ≡ moved_to here (here.at + 1))
-            (f : Does (suffix_step (tokens ks ns) m (levels (tokens ks ns) m room) k) c' w d v (suffix r) w' d' v') where
-          here-step : Does (suffix_step (tokens ks ns) m (levels (tokens ks ns) m room) (kind_at (tokens ks ns) here.at)) c' w d v (suffix r) w' d' v'
-          here-step = subst (λ (j : ℕ). Does (suffix_step (tokens ks ns) m (levels (tokens ks ns) m room) j) c' w d v (suffix r) w' d' v') p.is f
+        module _ {c' : Cursor} {w' d' : List ℕ} {v' : List ℤ} (i : c' ≡ moved_to here (here.at + 1)) where
+          here-step : {r : Reply DeclaratorStep} → Does (suffix_step (tokens ks ns) m (levels (tokens ks ns) m room) k) c' w d v r w' d' v'
+              → Does (suffix_step (tokens ks ns) m (levels (tokens ks ns) m room) (kind_at (tokens ks ns) here.at)) c' w d v r w' d' v'
+          here-step {r} f = subst (λ (j : ℕ). Does (suffix_step (tokens ks ns) m (levels (tokens ks ns) m room) j) c' w d v r w' d' v') p.is f
 
-          pub suffix-stop : {n j : ℕ} {y : Declared} → r ≡ Suffix-as-Refused n j → y ≡ record { answer = Refused n j; steps = t }
-              → Declares (suffixes (tokens ks ns) m (levels (tokens ks ns) m room) s.held (declarator_of s name)) c s w₀ d₀ v₀ y w' d' v'
-          suffix-stop z u = stops (ap (λ y. y.answer) u) (λ b h. turn (g.going b h) (λ b₁ l j h₁. by (made-is l (state here b₁) (sym p.is) a low) (refuse _ (step-on i here-step h₁) (ap suffix z) refl)))
+          pub suffix-stop : {j : Refusal} {r : Answered} → Does (suffix_step (tokens ks ns) m (levels (tokens ks ns) m room) k) c' w d v (bad (number_of j.reason) j.at) w' d' v' → IsErrAnd r (λ y. y ≡ j)
+              → Declares (suffixes (tokens ks ns) m (levels (tokens ks ns) m room) s.held (declarator_of s name)) c s w₀ d₀ v₀ r w' d' v'
+          suffix-stop f z = stopped z (λ b h. turn (g.going b h) (λ b₁ l j h₁. by (made-is l (state here b₁) (sym p.is) a low) (refuse _ (step-on i (here-step f) h₁) refl refl)))
 
-          module _ {e' : Cursor} {y : Kept} (z : r ≡ Suffix-as-Done e' y) where
+          module _ {e' : Cursor} {y : Kept} (f : Does (suffix_step (tokens ks ns) m (levels (tokens ks ns) m room) k) c' w d v (ok e' (step_of y)) w' d' v') where
             pub suffix-held : Held e' w' d' v'
-            suffix-held = held_on f (held_at i g.held) (ap suffix z)
+            suffix-held = held_next f (held_at i g.held)
 
             -- a step takes a token, and so does its mark
             pub fewer : left (tokens ks ns) e'.at < left (tokens ks ns) here.at
-            fewer = omega (arith, ap (λ u. u.at) i, suffix-there, past f (held_at i g.held) (ap suffix z) (λ u. suffix_step-past (tokens ks ns) m room k u))
+            fewer = omega (arith, ap (λ u. u.at) i, suffix-there, past f (held_at i g.held) refl (λ u. suffix_step-past (tokens ks ns) m room k u))
 
             pub again : {u : Steps} → pending u ≡ with_step (pending t) (step_of y) → Suffixing ks ns m room name c s w₀ d₀ v₀ e' u w' d' v'
             again {u} l =
@@ -392,7 +388,7 @@ module _ {ks ns : List ℕ} {m : Model} {room name : ℕ} {c : Cursor} {s : Step
                   held = suffix-held;
                   stars = ap (λ v₁. v₁.stars) l ∙ g.stars;
                   apart = omega (arith, n.0, n.1, low);
-                  going = λ b h. turn (g.going b h) (λ b₁ j o h₁. by (made-is j (state here b₁) (sym p.is) a low) (call _ (step-on i here-step h₁) (ap suffix z)
+                  going = λ b h. turn (g.going b h) (λ b₁ j o h₁. by (made-is j (state here b₁) (sym p.is) a low) (next _ (step-on i (here-step f) h₁)
                       (λ b₂ h₂. by (ap (λ (v₁ : Declarator). suffixes_from (tokens ks ns) m (levels (tokens ks ns) m room) j s.held v₁ (state e' b₂)) (sym (ap (λ v₁. record { steps = v₁.steps; name = name }) l)))
                       (starts {n = j} h₂ (omega (arith, fewer, o))))));
                 }

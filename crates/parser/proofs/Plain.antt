@@ -9,6 +9,10 @@ use borrow.Author.Tests.{eqb-true, eqb-false, leb-true, not-true}
 use lib.Dec.{eqb, leb}
 use lib.IntN.{ℤ}
 use lib.ListN.{length, get_or}
+use Rattle.std.specs.Prelude.{Result}
+use Rattle.std.specs.Result.{IsErrAnd}
+use Rattle.encoding.specs.Refusals.{number_of}
+use Rattle.encoding.specs.declared.refusals.Refusal.{Refusal}
 use Rattle.definition.specs.Answer.{got, ◌>>=◌}
 use Rattle.definition.specs.Kind.{is_name, star, open_bracket, open_paren}
 use Rattle.definition.specs.Token.{Tokens, kind_at, number_at, left}
@@ -19,19 +23,18 @@ use Rattle.definition.specs.Grammar.{pointer_step, named}
 use Rattle.definition.specs.Declarator.{apply, qualifiers_here, one_more_step, starred, stars_from, suffixes, declarator₁, direct₁}
 use Rattle.definition.specs.Reader.{levels}
 use Rattle.table.specs.Held.{state, moved_to}
-use Rattle.table.specs.Reply.{ok, bad, step, Runs, Does, Peek}
+use Rattle.table.specs.Reply.{ok, bad, reply_by, Runs, Does, Peek}
 use Rattle.table.specs.declared.Cursor.{Cursor}
-use Rattle.table.specs.declared.Step.{Step}
-use Rattle.table.specs.declared.Step.TheVariants.{Done, Refused}
 use Rattle.table.proofs.Branch.{by}
 use Rattle.lemmas.proofs.Branch.{yes, eq_yes, eq_no}
-use Rattle.table.proofs.Shown.{got!, got-at, call, refuse, step-on}
+use Rattle.table.proofs.Shown.{got!, got-at, call, exit, step-on}
 use Rattle.table.proofs.Steps.{there}
 use Rattle.constants.specs.Reading.{tokens}
 use Rattle.skipping.specs.Passing.{standing}
 use Rattle.declarator_heads.specs.Heads.{is_plain, is_plain_pointer}
 use Rattle.declarator_heads.proofs.Plain.{by_name, name-there as name-is-there}
-use Rattle.parser.specs.Answers.{both_numbers}
+use Rattle.parser.specs.Answers.{typed, both_numbers}
+use Rattle.parser.specs.declared.Typed.{Typed}
 use Rattle.parser.specs.Pieces.{typed_from}
 use Rattle.parser.proofs.Made.{no_suffix}
 use Rattle.parser.proofs.Declaring.{a-declarator, a-direct}
@@ -126,9 +129,11 @@ module _ (ks ns : List ℕ) (m : Model) (room b : ℕ) (c : Cursor) (h : 2 ≤ r
         ≡ (apply (pointer_step (q) ∷ []) b (state (moved_to c (next + 1)) t) >>= λ r. got (r.0, number_at (tokens ks ns) next, r.1))
     made t = typed-pointer ks ns m room h b (state c t) e (a-plain ks c.at e (f [] new_table)) (f ns t)
 
-    module _ {c' : Cursor} {w d w' d' : List ℕ} {v v' : List ℤ} {x : Step} (k : c' ≡ moved_to c (next + 1)) (a : Does (apply (pointer_step (q) ∷ []) b) c' w d v (step x) w' d' v') where
-      pub pointer-done : {e' : Cursor} {type name : ℕ} → x ≡ Done e' type → Peek ns next name → Runs both_numbers (typed_from (levels (tokens ks ns) m room) b) c w d v (ok e' (type, name)) w' d' v'
-      pointer-done z p = record { run = λ t g. by (made t) (call _ (step-on k a g) (ap step z) (λ t₁ h₁. rw (sym p.is) (got! h₁))) }
+    module _ {c' : Cursor} {w d w' d' : List ℕ} {v v' : List ℤ} (k : c' ≡ moved_to c (next + 1)) where
+      pub pointer-done : {e' : Cursor} {type name : ℕ} → Does (apply (pointer_step (q) ∷ []) b) c' w d v (ok e' type) w' d' v' → Peek ns next name
+          → Runs both_numbers (typed_from (levels (tokens ks ns) m room) b) c w d v (ok e' (type, name)) w' d' v'
+      pointer-done a p = record { run = λ t g. by (made t) (call _ (step-on k a g) refl (λ t₁ h₁. rw (sym p.is) (got! h₁))) }
 
-      pub pointer-refused : {n p : ℕ} → x ≡ Refused n p → Runs both_numbers (typed_from (levels (tokens ks ns) m room) b) c w d v (bad n p) w' d' v'
-      pointer-refused z = record { run = λ t g. by (made t) (refuse _ (step-on k a g) (ap step z) refl) }
+      pub pointer-refused : {z : Refusal} {r : Result (Cursor × Typed) Refusal} → Does (apply (pointer_step (q) ∷ []) b) c' w d v (bad (number_of z.reason) z.at) w' d' v' → IsErrAnd r (λ y. y ≡ z)
+          → Runs both_numbers (typed_from (levels (tokens ks ns) m room) b) c w d v (reply_by typed r) w' d' v'
+      pointer-refused a z = record { run = λ t g. by (made t) (exit (reply_by typed) _ (step-on k a g) z refl) }

@@ -1,4 +1,4 @@
-#![tactic(auto)]
+#![tactic(auto, using(table::proofs::Shown::held_next))]
 // The parser's cycle: specifiers, structs and unions, declarators and parameter lists. `room` is how many levels of nesting are left, as the
 // definition's `levels` counts them; the functions inside a level have the room of the level below it.
 ghost use Rattle.std.specs.Prelude.{◌≡◌, true, suc, ◌≤◌, ◌<◌, length};

@@ -123,11 +123,11 @@ body-member_list-requires t c = (omega (arith, c.decreases), (c.requires.held, (
 pub body-close_body-requires : goal.body-close_body-requires
 body-close_body-requires t c = let h = held_next c.in_ok-e.ensures c.requires.held in (h.long.words, h.long.wides, h.room)
 
-pub body-returns-in-To : goal.body-returns-in-To
-body-returns-in-To t c = record { run = λ t₁ h. from_first _ _ _ _ _ _ h.counts.members (next _ (c.in_ok-e.ensures.run t₁ h) (λ t₂ h₂. (c.close_body.ensures.with _).run t₂ h₂)) }
+pub body-returns : goal.body-returns
+body-returns t c = record { run = λ t₁ h. from_first _ _ _ _ _ _ h.counts.members (next _ (c.in_ok-e.ensures.run t₁ h) (λ t₂ h₂. (c.close_body.ensures.with _).run t₂ h₂)) }
 
-pub body-returns-in-Refused : goal.body-returns-in-Refused
-body-returns-in-Refused t c = record { run = λ t₁ h. from_first _ _ _ _ _ _ h.counts.members (exit REPLY _ (c.in_err-e.ensures.run t₁ h) c.from_residual.ensures.1 refl) }
+pub body-returns-in_err-e : goal.body-returns-in_err-e
+body-returns-in_err-e t c = record { run = λ t₁ h. from_first _ _ _ _ _ _ h.counts.members (exit (reply_by laid) _ (c.in_err-e.ensures.run t₁ h) c.from_residual.ensures.1 refl) }
 
 pub composite-returns-then-room-eq0 : goal.composite-returns-then-room-eq0
 composite-returns-then-room-eq0 t c = record { run = λ t₁ h. by (no_level _ _ _ _ c.if-room-eq0.true) (no! h refl) }
@@ -153,34 +153,34 @@ unfolding composite₁
 composite-returns t c = record { run = λ t₁ h. by (a-level _ _ _ _ c.if-room-eq0.false) (yes! _ _ _ (a-name c.kind_at.ensures c.is_name.ensures c.if-not-is_name.false-raw) (tagged _ _ _ _ _ c.name_at-name.ensures (step-on c.moved.ensures c.with_tag.ensures h))) }
 
 pub declarator-returns-then-room-eq0 : goal.declarator-returns-then-room-eq0
-declarator-returns-then-room-eq0 t c = stops (ap (λ x. x.answer) c.new.ensures) (λ b h. by (no_declarator _ _ _ _ c.if-room-eq0.true) (no! h refl))
+declarator-returns-then-room-eq0 t c = stops _ (λ b h. by (no_declarator _ _ _ _ c.if-room-eq0.true) (no! h refl))
 
 pub declarator-stars-t-requires : goal.declarator-stars-t-requires
 declarator-stars-t-requires t c = omega (arith, c.requires.starting.waiting.apart)
 
-pub declarator-returns-in_default : goal.declarator-returns-in_default
-declarator-returns-in_default t c = stars-stop _ _ _ _ _ _ _ c.requires.starting c.if-room-eq0.false c.stars-t.ensures c.in_default.is
+pub declarator-returns-in_err-e : goal.declarator-returns-in_err-e
+declarator-returns-in_err-e t c = stars-stop _ _ _ _ _ _ _ c.requires.starting c.if-room-eq0.false c.stars-t.ensures c.in_err-e.is c.from_residual-in_err-e.ensures.1
 
 pub declarator-overflow_sub-room : goal.declarator-overflow_sub-room
 declarator-overflow_sub-room t c = omega (arith, c.if-room-eq0.false)
 
 pub declarator-direct-requires : goal.declarator-direct-requires
-declarator-direct-requires t c = (omega (arith, c.decreases, c.if-room-eq0.false), (stars-held c.stars-t.ensures c.in-Done.is c.requires.held, (c.requires.readable, stars_starting c.requires.starting c.stars-t.ensures)))
+declarator-direct-requires t c = (omega (arith, c.decreases, c.if-room-eq0.false), (stars-held c.stars-t.ensures c.in_ok-e.is c.requires.held, (c.requires.readable, stars_starting c.requires.starting c.stars-t.ensures)))
 
 pub declarator-returns-then-all-used : goal.declarator-returns-then-all-used
-declarator-returns-then-all-used t c = unstarred _ _ _ _ _ _ _ c.requires.starting c.if-room-eq0.false c.stars-t.ensures c.in-Done.is c.in_ok-f.ensures c.if-all-used.true
+declarator-returns-then-all-used t c = unstarred _ _ _ _ _ _ _ c.requires.starting c.if-room-eq0.false c.stars-t.ensures c.in_ok-e.is c.in_ok-f.ensures c.if-all-used.true
 
-pub declarator-returns-in_default-answer : goal.declarator-returns-in_default-answer
-declarator-returns-in_default-answer t c = direct-stop _ _ _ _ _ _ _ c.requires.starting c.if-room-eq0.false c.stars-t.ensures c.in-Done.is c.in_ok-f.ensures c.in_default-answer.is
+pub declarator-returns-in_err-f : goal.declarator-returns-in_err-f
+declarator-returns-in_err-f t c = direct-stop _ _ _ _ _ _ _ c.requires.starting c.if-room-eq0.false c.stars-t.ensures c.in_ok-e.is c.in_err-f.ensures c.from_residual-in_err-f.ensures.1
 
 pub declarator-overflow_sub-all : goal.declarator-overflow_sub-all
 declarator-overflow_sub-all t c = omega (arith, c.stars-t.ensures.holds.held)
 
 pub declarator-release_stars-requires : goal.declarator-release_stars-requires
-declarator-release_stars-requires t c = stars_wait _ _ _ _ _ _ _ c.requires.starting c.if-room-eq0.false c.stars-t.ensures c.in-Done.is c.in_ok-f.ensures c.in-Done-answer.is
+declarator-release_stars-requires t c = stars_wait _ _ _ _ _ _ _ c.requires.starting c.if-room-eq0.false c.stars-t.ensures c.in_ok-e.is c.in_ok-f.ensures
 
 pub declarator-returns : goal.declarator-returns
-declarator-returns t c = direct-done _ _ _ _ _ _ _ c.requires.starting c.if-room-eq0.false c.stars-t.ensures c.in-Done.is c.in_ok-f.ensures c.in-Done-answer.is _ c.release_stars.ensures c.in-Done-answer.is c.new-2.ensures
+declarator-returns t c = direct-done _ _ _ _ _ _ _ c.requires.starting c.if-room-eq0.false c.stars-t.ensures c.in_ok-e.is c.in_ok-f.ensures _ c.release_stars.ensures
 
 pub declarators-loop-e-init : goal.declarators-loop-e-init
 declarators-loop-e-init t c = begin c.requires.held
@@ -188,27 +188,9 @@ declarators-loop-e-init t c = begin c.requires.held
 pub declarators-one_member-requires : goal.declarators-one_member-requires
 declarators-one_member-requires t c = (omega (arith, c.decreases), (c.loop-e.invariant.held, (c.requires.readable, c.requires.first_le_max_members)))
 
-pub declarators-shape_of-w-in_default : goal.declarators-shape_of-w-in_default
-declarators-shape_of-w-in_default t c = c.w-1.given ∙ (c.loop-e.invariant.held.long.words ∙ sym c.requires.held.long.words)
-
-pub declarators-shape_of-d-in_default : goal.declarators-shape_of-d-in_default
-declarators-shape_of-d-in_default t c = c.d-1.given ∙ (c.loop-e.invariant.held.long.wides ∙ sym c.requires.held.long.wides)
-
-pub declarators-shape_of-v-in_default : goal.declarators-shape_of-v-in_default
-declarators-shape_of-v-in_default t c = c.v-1.given ∙ (c.loop-e.invariant.held.long.signeds ∙ sym c.requires.held.long.signeds)
-
-pub declarators-returns-in_default : goal.declarators-returns-in_default
+pub declarators-returns-in_err-e : goal.declarators-returns-in_err-e
 unfolding member_declarators
-declarators-returns-in_default t c = record { rounds = λ n p. record { run = λ t₁ h. turn (c.loop-e.invariant.going n p t₁ h) (λ t₂ f l h₂. exit REPLY _ (c.in_err-e.ensures.run t₂ h₂) c.from_residual.ensures.1 refl) } }
-
-pub declarators-shape_of-w-then-kind-ne-SEMICOLON : goal.declarators-shape_of-w-then-kind-ne-SEMICOLON
-declarators-shape_of-w-then-kind-ne-SEMICOLON t c = c.w-1.given ∙ (c.loop-e.invariant.held.long.words ∙ sym c.requires.held.long.words)
-
-pub declarators-shape_of-d-then-kind-ne-SEMICOLON : goal.declarators-shape_of-d-then-kind-ne-SEMICOLON
-declarators-shape_of-d-then-kind-ne-SEMICOLON t c = c.d-1.given ∙ (c.loop-e.invariant.held.long.wides ∙ sym c.requires.held.long.wides)
-
-pub declarators-shape_of-v-then-kind-ne-SEMICOLON : goal.declarators-shape_of-v-then-kind-ne-SEMICOLON
-declarators-shape_of-v-then-kind-ne-SEMICOLON t c = c.v-1.given ∙ (c.loop-e.invariant.held.long.signeds ∙ sym c.requires.held.long.signeds)
+declarators-returns-in_err-e t c = record { rounds = λ n p. record { run = λ t₁ h. turn (c.loop-e.invariant.going n p t₁ h) (λ t₂ f l h₂. exit reply_alone _ (c.in_err-e.ensures.run t₂ h₂) c.from_residual.ensures.1 refl) } }
 
 pub declarators-returns-then-kind-ne-SEMICOLON : goal.declarators-returns-then-kind-ne-SEMICOLON
 unfolding member_declarators
@@ -216,15 +198,6 @@ declarators-returns-then-kind-ne-SEMICOLON t c = record { rounds = λ n p. recor
 
 pub declarators-overflow_add-at : goal.declarators-overflow_add-at
 declarators-overflow_add-at t c = omega (arith, c.well_formed.0.1, there c.kind_at-kind.ensures c.if-kind-ne-SEMICOLON.false)
-
-pub declarators-shape_of-w-then-kind-ne-COMMA : goal.declarators-shape_of-w-then-kind-ne-COMMA
-declarators-shape_of-w-then-kind-ne-COMMA t c = c.w-1.given ∙ (c.loop-e.invariant.held.long.words ∙ sym c.requires.held.long.words)
-
-pub declarators-shape_of-d-then-kind-ne-COMMA : goal.declarators-shape_of-d-then-kind-ne-COMMA
-declarators-shape_of-d-then-kind-ne-COMMA t c = c.d-1.given ∙ (c.loop-e.invariant.held.long.wides ∙ sym c.requires.held.long.wides)
-
-pub declarators-shape_of-v-then-kind-ne-COMMA : goal.declarators-shape_of-v-then-kind-ne-COMMA
-declarators-shape_of-v-then-kind-ne-COMMA t c = c.v-1.given ∙ (c.loop-e.invariant.held.long.signeds ∙ sym c.requires.held.long.signeds)
 
 pub declarators-returns-then-kind-ne-COMMA : goal.declarators-returns-then-kind-ne-COMMA
 unfolding member_declarators
@@ -263,19 +236,19 @@ pub declared_type-declarator-requires : goal.declared_type-declarator-requires
 declared_type-declarator-requires t c = (omega (arith, c.decreases), (c.requires.held, (c.requires.readable, starts-empty _ c.empty.ensures.kept)))
 
 pub declared_type-apply-requires : goal.declared_type-apply-requires
-declared_type-apply-requires t c = (declared_held c.in_ok-e.ensures c.in-Done.is c.requires.held, declared_few c.in_ok-e.ensures c.in-Done.is)
+declared_type-apply-requires t c = (declared_held c.in_ok-e.ensures c.requires.held, declared_few c.in_ok-e.ensures)
 
-pub declared_type-returns-in-Done-r : goal.declared_type-returns-in-Done-r
-declared_type-returns-in-Done-r t c = typed-done _ _ c.empty.ensures.kept c.in_ok-e.ensures c.in-Done.is c.in_ok-f.ensures c.in-Done-r.is
+pub declared_type-returns : goal.declared_type-returns
+declared_type-returns t c = typed-done _ _ c.empty.ensures.kept c.in_ok-e.ensures c.in_ok-f.ensures
 
-pub declared_type-returns-in-Refused-r : goal.declared_type-returns-in-Refused-r
-declared_type-returns-in-Refused-r t c = typed-refused _ _ c.empty.ensures.kept c.in_ok-e.ensures c.in-Done.is c.in_ok-f.ensures c.in-Refused-r.is
+pub declared_type-returns-in_err-f : goal.declared_type-returns-in_err-f
+declared_type-returns-in_err-f t c = typed-refused _ _ c.empty.ensures.kept c.in_ok-e.ensures c.in_err-f.ensures c.from_residual-in_err-f.ensures.1
 
-pub declared_type-returns-in-Refused : goal.declared_type-returns-in-Refused
-declared_type-returns-in-Refused t c = typed-stop _ _ c.empty.ensures.kept c.in_ok-e.ensures c.in-Refused.is
+pub declared_type-returns-in_err-e : goal.declared_type-returns-in_err-e
+declared_type-returns-in_err-e t c = typed-stop _ _ c.empty.ensures.kept c.in_err-e.ensures c.from_residual-in_err-e.ensures.1
 
 pub direct-returns-then-room-eq0 : goal.direct-returns-then-room-eq0
-direct-returns-then-room-eq0 t c = stops (ap (λ x. x.answer) c.new.ensures) (λ b h. by (no_direct _ _ _ _ c.if-room-eq0.true) (no! h refl))
+direct-returns-then-room-eq0 t c = stops _ (λ b h. by (no_direct _ _ _ _ c.if-room-eq0.true) (no! h refl))
 
 pub direct-overflow_sub-inner : goal.direct-overflow_sub-inner
 direct-overflow_sub-inner t c = omega (arith, c.if-room-eq0.false)
@@ -307,44 +280,26 @@ direct-overflow_add-at-2 t c = omega (arith, c.requires.readable.few, opens-ther
 pub direct-declarator-requires : goal.direct-declarator-requires
 direct-declarator-requires t c = (omega (arith, c.decreases, c.if-room-eq0.false), (held_at c.moved-2.ensures c.requires.held, (c.requires.readable, c.requires.starting)))
 
-pub direct-returns-in_default : goal.direct-returns-in_default
-direct-returns-in_default t c = inner-stop _ _ _ _ c.requires.starting c.if-room-eq0.false (no_name_lem c.kind_at.ensures c.is_name.ensures (ap not c.if-is_name.false)) c.opens_declarator.ensures (not-false _ c.if-not-opens_declarator.false-raw) c.moved-2.ensures c.in_ok-e.ensures c.in_default.is
+pub direct-returns-in_err-e : goal.direct-returns-in_err-e
+direct-returns-in_err-e t c = inner-stop _ _ _ _ c.requires.starting c.if-room-eq0.false (no_name_lem c.kind_at.ensures c.is_name.ensures (ap not c.if-is_name.false)) c.opens_declarator.ensures (not-false _ c.if-not-opens_declarator.false-raw) c.moved-2.ensures c.in_err-e.ensures c.from_residual.ensures.1
 
 pub direct-returns-then-kind_at-ne-CLOSE_PAREN : goal.direct-returns-then-kind_at-ne-CLOSE_PAREN
-direct-returns-then-kind_at-ne-CLOSE_PAREN t c = not_closed_lem _ _ _ _ c.requires.starting c.if-room-eq0.false (no_name_lem c.kind_at.ensures c.is_name.ensures (ap not c.if-is_name.false)) c.opens_declarator.ensures (not-false _ c.if-not-opens_declarator.false-raw) c.moved-2.ensures c.in_ok-e.ensures c.in-Done.is c.kind_at-2.ensures c.if-kind_at-ne-CLOSE_PAREN.true c.new-then-kind_at-ne-CLOSE_PAREN.ensures
+direct-returns-then-kind_at-ne-CLOSE_PAREN t c = not_closed_lem _ _ _ _ c.requires.starting c.if-room-eq0.false (no_name_lem c.kind_at.ensures c.is_name.ensures (ap not c.if-is_name.false)) c.opens_declarator.ensures (not-false _ c.if-not-opens_declarator.false-raw) c.moved-2.ensures c.in_ok-e.ensures c.kind_at-2.ensures c.if-kind_at-ne-CLOSE_PAREN.true
 
 pub direct-overflow_add-i : goal.direct-overflow_add-i
 direct-overflow_add-i t c = omega (arith, c.requires.readable.few, there c.kind_at-2.ensures c.if-kind_at-ne-CLOSE_PAREN.false)
 
 pub direct-suffixes-requires-2 : goal.direct-suffixes-requires-2
-direct-suffixes-requires-2 t c = (omega (arith, c.decreases, c.if-room-eq0.false), (held_at c.moved-3.ensures (declared_held c.in_ok-e.ensures c.in-Done.is (held_at c.moved-2.ensures c.requires.held)), (c.requires.readable, declared_waits c.in_ok-e.ensures c.in-Done.is)))
-
-pub direct-shape_of-w : goal.direct-shape_of-w
-direct-shape_of-w t c = c.w-3-1.given ∙ c.w-2-1.given
-
-pub direct-shape_of-d : goal.direct-shape_of-d
-direct-shape_of-d t c = c.d-3-1.given ∙ c.d-2-1.given
-
-pub direct-shape_of-v : goal.direct-shape_of-v
-direct-shape_of-v t c = c.v-3-1.given ∙ c.v-2-1.given
+direct-suffixes-requires-2 t c = (omega (arith, c.decreases, c.if-room-eq0.false), (held_at c.moved-3.ensures (declared_held c.in_ok-e.ensures (held_at c.moved-2.ensures c.requires.held)), (c.requires.readable, declared_waits c.in_ok-e.ensures)))
 
 pub direct-returns : goal.direct-returns
-direct-returns t c = closed _ _ _ _ c.requires.starting c.if-room-eq0.false (no_name_lem c.kind_at.ensures c.is_name.ensures (ap not c.if-is_name.false)) c.opens_declarator.ensures (not-false _ c.if-not-opens_declarator.false-raw) c.moved-2.ensures c.in_ok-e.ensures c.in-Done.is c.kind_at-2.ensures c.if-kind_at-ne-CLOSE_PAREN.false c.moved-3.ensures c.suffixes-2.ensures
+direct-returns t c = closed _ _ _ _ c.requires.starting c.if-room-eq0.false (no_name_lem c.kind_at.ensures c.is_name.ensures (ap not c.if-is_name.false)) c.opens_declarator.ensures (not-false _ c.if-not-opens_declarator.false-raw) c.moved-2.ensures c.in_ok-e.ensures c.kind_at-2.ensures c.if-kind_at-ne-CLOSE_PAREN.false c.moved-3.ensures c.suffixes-2.ensures
 
 pub list-loop-m-init : goal.list-loop-m-init
 list-loop-m-init t c = record { reading = begin c.requires.held; passed = omega arith; few = omega arith }
 
 pub list-overflow_add-at : goal.list-overflow_add-at
 list-overflow_add-at t c = omega (arith, c.well_formed.0.1, there c.kind_at.ensures c.if-kind_at-eq-ELLIPSIS.true)
-
-pub list-shape_of-w-then-kind_at-eq-ELLIPSIS : goal.list-shape_of-w-then-kind_at-eq-ELLIPSIS
-list-shape_of-w-then-kind_at-eq-ELLIPSIS t c = c.loop-m.invariant.reading.held.long.words ∙ sym c.requires.held.long.words
-
-pub list-shape_of-d-then-kind_at-eq-ELLIPSIS : goal.list-shape_of-d-then-kind_at-eq-ELLIPSIS
-list-shape_of-d-then-kind_at-eq-ELLIPSIS t c = c.loop-m.invariant.reading.held.long.wides ∙ sym c.requires.held.long.wides
-
-pub list-shape_of-v-then-kind_at-eq-ELLIPSIS : goal.list-shape_of-v-then-kind_at-eq-ELLIPSIS
-list-shape_of-v-then-kind_at-eq-ELLIPSIS t c = c.loop-m.invariant.reading.held.long.signeds ∙ sym c.requires.held.long.signeds
 
 pub list-returns-then-kind_at-eq-ELLIPSIS : goal.list-returns-then-kind_at-eq-ELLIPSIS
 unfolding parameters_from
@@ -353,27 +308,9 @@ list-returns-then-kind_at-eq-ELLIPSIS t c = record { run = λ t₁ h. turn (c.lo
 pub list-parameter-requires : goal.list-parameter-requires
 list-parameter-requires t c = (omega (arith, c.decreases), (c.loop-m.invariant.reading.held, c.requires.readable))
 
-pub list-shape_of-w-in-Refused : goal.list-shape_of-w-in-Refused
-list-shape_of-w-in-Refused t c = c.w-1.given ∙ (c.loop-m.invariant.reading.held.long.words ∙ sym c.requires.held.long.words)
-
-pub list-shape_of-d-in-Refused : goal.list-shape_of-d-in-Refused
-list-shape_of-d-in-Refused t c = c.d-1.given ∙ (c.loop-m.invariant.reading.held.long.wides ∙ sym c.requires.held.long.wides)
-
-pub list-shape_of-v-in-Refused : goal.list-shape_of-v-in-Refused
-list-shape_of-v-in-Refused t c = c.v-1.given ∙ (c.loop-m.invariant.reading.held.long.signeds ∙ sym c.requires.held.long.signeds)
-
-pub list-returns-in-Refused : goal.list-returns-in-Refused
+pub list-returns-in_err-e : goal.list-returns-in_err-e
 unfolding parameters_from
-list-returns-in-Refused t c = record { run = λ t₁ h. turn (c.loop-m.invariant.reading.going _ (enough _) t₁ h) (λ t₂ f l h₂. is- _ _ c.kind_at.ensures c.if-kind_at-eq-ELLIPSIS.false (exit REPLY _ (c.in_err-e.ensures.run t₂ h₂) c.from_residual.ensures.1 refl)) }
-
-pub list-shape_of-w-then-is_void_list : goal.list-shape_of-w-then-is_void_list
-list-shape_of-w-then-is_void_list t c = c.w-1.given ∙ (c.loop-m.invariant.reading.held.long.words ∙ sym c.requires.held.long.words)
-
-pub list-shape_of-d-then-is_void_list : goal.list-shape_of-d-then-is_void_list
-list-shape_of-d-then-is_void_list t c = c.d-1.given ∙ (c.loop-m.invariant.reading.held.long.wides ∙ sym c.requires.held.long.wides)
-
-pub list-shape_of-v-then-is_void_list : goal.list-shape_of-v-then-is_void_list
-list-shape_of-v-then-is_void_list t c = c.v-1.given ∙ (c.loop-m.invariant.reading.held.long.signeds ∙ sym c.requires.held.long.signeds)
+list-returns-in_err-e t c = record { run = λ t₁ h. turn (c.loop-m.invariant.reading.going _ (enough _) t₁ h) (λ t₂ f l h₂. is- _ _ c.kind_at.ensures c.if-kind_at-eq-ELLIPSIS.false (exit (reply_by step_of) _ (c.in_err-e.ensures.run t₂ h₂) c.from_residual-in_err-e.ensures.1 refl)) }
 
 pub list-returns-then-is_void_list : goal.list-returns-then-is_void_list
 unfolding parameters_from
@@ -385,46 +322,28 @@ list-returns-then-is_void_list t c = record {
 pub list-add_parameter-requires : goal.list-add_parameter-requires
 list-add_parameter-requires t c = record { held = held_next c.in_ok-e.ensures c.loop-m.invariant.reading.held; first_le_max_parameters = c.requires.first_le_max_parameters }
 
-pub list-shape_of-w-in-Refused-r : goal.list-shape_of-w-in-Refused-r
-list-shape_of-w-in-Refused-r t c = c.w-in-Done-1.given ∙ (c.w-1.given ∙ (c.loop-m.invariant.reading.held.long.words ∙ sym c.requires.held.long.words))
-
-pub list-shape_of-d-in-Refused-r : goal.list-shape_of-d-in-Refused-r
-list-shape_of-d-in-Refused-r t c = c.d-in-Done-1.given ∙ (c.d-1.given ∙ (c.loop-m.invariant.reading.held.long.wides ∙ sym c.requires.held.long.wides))
-
-pub list-shape_of-v-in-Refused-r : goal.list-shape_of-v-in-Refused-r
-list-shape_of-v-in-Refused-r t c = c.v-in-Done-1.given ∙ (c.v-1.given ∙ (c.loop-m.invariant.reading.held.long.signeds ∙ sym c.requires.held.long.signeds))
-
-pub list-returns-in-Refused-r : goal.list-returns-in-Refused-r
+pub list-returns-in_err-f : goal.list-returns-in_err-f
 unfolding parameters_from
-list-returns-in-Refused-r t c = record {
+list-returns-in_err-f t c = record {
   run = λ t₁ h. turn (c.loop-m.invariant.reading.going _ (enough _) t₁ h) (λ t₂ f l h₂. is- _ _ c.kind_at.ensures c.if-kind_at-eq-ELLIPSIS.false (next _ (c.in_ok-e.ensures.run t₂ h₂)
-      (λ t₃ h₃. nay! _ _ _ (sym (c.is_void_list.ensures.of _ t₃) ∙ c.if-is_void_list.false) (entered _ _ _ _ _ _ (exit REPLY _ (c.in_err-f.ensures.run t₃ h₃) c.from_residual.ensures.1 refl)))));
+      (λ t₃ h₃. nay! _ _ _ (sym (c.is_void_list.ensures.of _ t₃) ∙ c.if-is_void_list.false) (entered _ _ _ _ _ _ (exit (reply_by step_of) _ (c.in_err-f.ensures.run t₃ h₃) c.from_residual-in_err-f.ensures.1 refl)))));
 }
 
 pub list-overflow_add-n : goal.list-overflow_add-n
 list-overflow_add-n t c = omega (arith, c.loop-m.invariant.few, c.requires.readable.few)
 
-pub list-shape_of-w-then-kind_at-ne-COMMA : goal.list-shape_of-w-then-kind_at-ne-COMMA
-list-shape_of-w-then-kind_at-ne-COMMA t c = c.w-in-Done-1.given ∙ (c.w-1.given ∙ (c.loop-m.invariant.reading.held.long.words ∙ sym c.requires.held.long.words))
-
-pub list-shape_of-d-then-kind_at-ne-COMMA : goal.list-shape_of-d-then-kind_at-ne-COMMA
-list-shape_of-d-then-kind_at-ne-COMMA t c = c.d-in-Done-1.given ∙ (c.d-1.given ∙ (c.loop-m.invariant.reading.held.long.wides ∙ sym c.requires.held.long.wides))
-
-pub list-shape_of-v-then-kind_at-ne-COMMA : goal.list-shape_of-v-then-kind_at-ne-COMMA
-list-shape_of-v-then-kind_at-ne-COMMA t c = c.v-in-Done-1.given ∙ (c.v-1.given ∙ (c.loop-m.invariant.reading.held.long.signeds ∙ sym c.requires.held.long.signeds))
-
 pub list-returns-then-kind_at-ne-COMMA : goal.list-returns-then-kind_at-ne-COMMA
 unfolding parameters_from
 list-returns-then-kind_at-ne-COMMA t c = record {
   run = λ t₁ h. turn (c.loop-m.invariant.reading.going _ (enough _) t₁ h) (λ t₂ f l h₂. is- _ _ c.kind_at.ensures c.if-kind_at-eq-ELLIPSIS.false (next _ (c.in_ok-e.ensures.run t₂ h₂)
-      (λ t₃ h₃. nay! _ _ _ (sym (c.is_void_list.ensures.of _ t₃) ∙ c.if-is_void_list.false) (entered _ _ _ _ _ _ (next _ (c.in_ok-f.ensures.run t₃ h₃) (λ t₄ h₄. is- _ _ c.kind_at-in-Done-r.ensures c.if-kind_at-ne-COMMA.true (counted-end _ _ _ _ _ _ _ ((c.parameters_end-then-kind_at-ne-COMMA.ensures.with c.args.numbers.now (model c.args.m) (levels (tokens c.args.kinds.now c.args.numbers.now) (model c.args.m) c.args.room) _ _ _).run t₄ h₄))))))));
+      (λ t₃ h₃. nay! _ _ _ (sym (c.is_void_list.ensures.of _ t₃) ∙ c.if-is_void_list.false) (entered _ _ _ _ _ _ (next _ (c.in_ok-f.ensures.run t₃ h₃) (λ t₄ h₄. is- _ _ c.kind_at-3.ensures c.if-kind_at-ne-COMMA.true (counted-end _ _ _ _ _ _ _ ((c.parameters_end-then-kind_at-ne-COMMA.ensures.with c.args.numbers.now (model c.args.m) (levels (tokens c.args.kinds.now c.args.numbers.now) (model c.args.m) c.args.room) _ _ _).run t₄ h₄))))))));
 }
 
 pub list-overflow_add-i : goal.list-overflow_add-i
-list-overflow_add-i t c = omega (arith, c.well_formed.0.1, there c.kind_at-in-Done-r.ensures c.if-kind_at-ne-COMMA.false)
+list-overflow_add-i t c = omega (arith, c.well_formed.0.1, there c.kind_at-3.ensures c.if-kind_at-ne-COMMA.false)
 
 pub list-loop-m-smaller : goal.list-loop-m-smaller
-list-loop-m-smaller t c = (fewer _ _ c.moved-here.ensures (entry-on (typed-on c.in_ok-e.ensures c.loop-m.invariant.reading.held refl (parameter-on _ _ _ (levels-on _ _ _))) (stays c.in_ok-f.ensures (held_next c.in_ok-e.ensures c.loop-m.invariant.reading.held) refl (added_parameter-stays _ _ _ _))) (there c.kind_at-in-Done-r.ensures c.if-kind_at-ne-COMMA.false))
+list-loop-m-smaller t c = (fewer _ _ c.moved-here.ensures (entry-on (typed-on c.in_ok-e.ensures c.loop-m.invariant.reading.held refl (parameter-on _ _ _ (levels-on _ _ _))) (stays c.in_ok-f.ensures (held_next c.in_ok-e.ensures c.loop-m.invariant.reading.held) refl (added_parameter-stays _ _ _ _))) (there c.kind_at-3.ensures c.if-kind_at-ne-COMMA.false))
 
 pub list-loop-m-preserved : goal.list-loop-m-preserved
 unfolding parameters_from
@@ -432,10 +351,10 @@ list-loop-m-preserved t c = record {
   reading = record {
     held = held_at c.moved-here.ensures (held_next c.in_ok-f.ensures (held_next c.in_ok-e.ensures c.loop-m.invariant.reading.held));
     going = λ k p t₁ h. turn (c.loop-m.invariant.reading.going k p t₁ h) (λ t₂ f l h₂. is- _ _ c.kind_at.ensures c.if-kind_at-eq-ELLIPSIS.false (next _ (c.in_ok-e.ensures.run t₂ h₂)
-        (λ t₃ h₃. nay! _ _ _ (sym (c.is_void_list.ensures.of _ t₃) ∙ c.if-is_void_list.false) (entered _ _ _ _ _ _ (next _ (c.in_ok-f.ensures.run t₃ h₃) (λ t₄ h₄. is+ _ _ c.kind_at-in-Done-r.ensures c.if-kind_at-ne-COMMA.false (counted-on (tokens c.args.kinds.now c.args.numbers.now) (model c.args.m) (levels (tokens c.args.kinds.now c.args.numbers.now) (model c.args.m) c.args.room) c.args.first c.loop-m.n (state (moved_to c.in-Done-r.f (c.in-Done-r.f.at + 1)) t₄) f (starts-at c.moved-here.ensures h₄ (lt_of_lt_of_le (fewer _ _ c.moved-here.ensures (entry-on (typed-on c.in_ok-e.ensures c.loop-m.invariant.reading.held refl (parameter-on _ _ _ (levels-on _ _ _))) (stays c.in_ok-f.ensures (held_next c.in_ok-e.ensures c.loop-m.invariant.reading.held) refl (added_parameter-stays _ _ _ _))) (there c.kind_at-in-Done-r.ensures c.if-kind_at-ne-COMMA.false)) l)))))))));
+        (λ t₃ h₃. nay! _ _ _ (sym (c.is_void_list.ensures.of _ t₃) ∙ c.if-is_void_list.false) (entered _ _ _ _ _ _ (next _ (c.in_ok-f.ensures.run t₃ h₃) (λ t₄ h₄. is+ _ _ c.kind_at-3.ensures c.if-kind_at-ne-COMMA.false (counted-on (tokens c.args.kinds.now c.args.numbers.now) (model c.args.m) (levels (tokens c.args.kinds.now c.args.numbers.now) (model c.args.m) c.args.room) c.args.first c.loop-m.n (state (moved_to c.in-Done-r.f (c.in-Done-r.f.at + 1)) t₄) f (starts-at c.moved-here.ensures h₄ (lt_of_lt_of_le (fewer _ _ c.moved-here.ensures (entry-on (typed-on c.in_ok-e.ensures c.loop-m.invariant.reading.held refl (parameter-on _ _ _ (levels-on _ _ _))) (stays c.in_ok-f.ensures (held_next c.in_ok-e.ensures c.loop-m.invariant.reading.held) refl (added_parameter-stays _ _ _ _))) (there c.kind_at-3.ensures c.if-kind_at-ne-COMMA.false)) l)))))))));
   };
   passed = one_more c.moved-here.ensures c.loop-m.invariant.passed (entry-on (typed-on c.in_ok-e.ensures c.loop-m.invariant.reading.held refl (parameter-on _ _ _ (levels-on _ _ _))) (stays c.in_ok-f.ensures (held_next c.in_ok-e.ensures c.loop-m.invariant.reading.held) refl (added_parameter-stays _ _ _ _)));
-  few = one_fewer c.loop-m.invariant.passed (entry-on (typed-on c.in_ok-e.ensures c.loop-m.invariant.reading.held refl (parameter-on _ _ _ (levels-on _ _ _))) (stays c.in_ok-f.ensures (held_next c.in_ok-e.ensures c.loop-m.invariant.reading.held) refl (added_parameter-stays _ _ _ _))) (there c.kind_at-in-Done-r.ensures c.if-kind_at-ne-COMMA.false);
+  few = one_fewer c.loop-m.invariant.passed (entry-on (typed-on c.in_ok-e.ensures c.loop-m.invariant.reading.held refl (parameter-on _ _ _ (levels-on _ _ _))) (stays c.in_ok-f.ensures (held_next c.in_ok-e.ensures c.loop-m.invariant.reading.held) refl (added_parameter-stays _ _ _ _))) (there c.kind_at-3.ensures c.if-kind_at-ne-COMMA.false);
 }
 
 pub member-specifiers-requires : goal.member-specifiers-requires
@@ -450,40 +369,22 @@ member-base_type-requires t c = held_next c.in_ok-e.ensures c.requires.held
 pub member-after_type-requires : goal.member-after_type-requires
 member-after_type-requires t c = (omega (arith, c.decreases), (held_next c.in_ok-f.ensures (held_next c.in_ok-e.ensures c.requires.held), (c.requires.readable, c.requires.first_le_max_members)))
 
-pub member-shape_of-w-in-Done-r : goal.member-shape_of-w-in-Done-r
-member-shape_of-w-in-Done-r t c = c.w-in-Done-r-1.given ∙ (c.w-in-Done-1.given ∙ c.w-1.given)
-
-pub member-shape_of-d-in-Done-r : goal.member-shape_of-d-in-Done-r
-member-shape_of-d-in-Done-r t c = c.d-in-Done-r-1.given ∙ (c.d-in-Done-1.given ∙ c.d-1.given)
-
-pub member-shape_of-v-in-Done-r : goal.member-shape_of-v-in-Done-r
-member-shape_of-v-in-Done-r t c = c.v-in-Done-r-1.given ∙ (c.v-in-Done-1.given ∙ c.v-1.given)
-
-pub member-returns-in-Done-r : goal.member-returns-in-Done-r
-member-returns-in-Done-r t c = let a = held_next c.in_ok-e.ensures c.requires.held in
+pub member-returns : goal.member-returns
+member-returns t c = let a = held_next c.in_ok-e.ensures c.requires.held in
     let far = member-enough (tokens c.args.kinds.now c.args.numbers.now) (on c.in_ok-e.ensures c.requires.held refl (specifiers-on _ _ _ (levels-on _ _ _))) (stays c.in_ok-f.ensures a refl (λ s. base_type-stays s _ _ _)) in
     record {
       run = λ t₁ h. by (declaration-made _ _ _ _ _) (next _ (c.in_ok-e.ensures.run t₁ h) (λ t₂ h₂. eq+ _ _ _ _ (no_class _ c.if-ne.ensures)
           (next _ (c.in_ok-f.ensures.run t₂ h₂) (λ t₃ h₃. (c.after_type.ensures.rounds _ far).run t₃ h₃))));
     }
 
-pub member-shape_of-w-in-Refused-r : goal.member-shape_of-w-in-Refused-r
-member-shape_of-w-in-Refused-r t c = c.w-in-Done-1.given ∙ c.w-1.given
-
-pub member-shape_of-d-in-Refused-r : goal.member-shape_of-d-in-Refused-r
-member-shape_of-d-in-Refused-r t c = c.d-in-Done-1.given ∙ c.d-1.given
-
-pub member-shape_of-v-in-Refused-r : goal.member-shape_of-v-in-Refused-r
-member-shape_of-v-in-Refused-r t c = c.v-in-Done-1.given ∙ c.v-1.given
-
-pub member-returns-in-Refused-r : goal.member-returns-in-Refused-r
-member-returns-in-Refused-r t c = record {
+pub member-returns-in_err-f : goal.member-returns-in_err-f
+member-returns-in_err-f t c = record {
   run = λ t₁ h. by (declaration-made _ _ _ _ _) (next _ (c.in_ok-e.ensures.run t₁ h) (λ t₂ h₂. eq+ _ _ _ _ (no_class _ c.if-ne.ensures)
-      (exit REPLY _ (c.in_err-f.ensures.run t₂ h₂) c.from_residual.ensures.1 refl)));
+      (exit reply_alone _ (c.in_err-f.ensures.run t₂ h₂) c.from_residual-in_err-f.ensures.1 refl)));
 }
 
-pub member-returns-in-Refused : goal.member-returns-in-Refused
-member-returns-in-Refused t c = record { run = λ t₁ h. by (declaration-made _ _ _ _ _) (exit REPLY _ (c.in_err-e.ensures.run t₁ h) c.from_residual.ensures.1 refl) }
+pub member-returns-in_err-e : goal.member-returns-in_err-e
+member-returns-in_err-e t c = record { run = λ t₁ h. by (declaration-made _ _ _ _ _) (exit reply_alone _ (c.in_err-e.ensures.run t₁ h) c.from_residual-in_err-e.ensures.1 refl) }
 
 pub member_list-loop-m-init : goal.member_list-loop-m-init
 member_list-loop-m-init t c = begin c.requires.held
@@ -491,27 +392,9 @@ member_list-loop-m-init t c = begin c.requires.held
 pub member_list-overflow_add-at : goal.member_list-overflow_add-at
 member_list-overflow_add-at t c = omega (arith, c.well_formed.0.1, there c.kind_at-kind.ensures c.if-kind-eq-CLOSE_BRACE.true)
 
-pub member_list-shape_of-w-then-kind-eq-CLOSE_BRACE : goal.member_list-shape_of-w-then-kind-eq-CLOSE_BRACE
-member_list-shape_of-w-then-kind-eq-CLOSE_BRACE t c = c.loop-m.invariant.held.long.words ∙ sym c.requires.held.long.words
-
-pub member_list-shape_of-d-then-kind-eq-CLOSE_BRACE : goal.member_list-shape_of-d-then-kind-eq-CLOSE_BRACE
-member_list-shape_of-d-then-kind-eq-CLOSE_BRACE t c = c.loop-m.invariant.held.long.wides ∙ sym c.requires.held.long.wides
-
-pub member_list-shape_of-v-then-kind-eq-CLOSE_BRACE : goal.member_list-shape_of-v-then-kind-eq-CLOSE_BRACE
-member_list-shape_of-v-then-kind-eq-CLOSE_BRACE t c = c.loop-m.invariant.held.long.signeds ∙ sym c.requires.held.long.signeds
-
 pub member_list-returns-then-kind-eq-CLOSE_BRACE : goal.member_list-returns-then-kind-eq-CLOSE_BRACE
 unfolding members_from
 member_list-returns-then-kind-eq-CLOSE_BRACE t c = record { run = λ t₁ h. turn (c.loop-m.invariant.going _ (enough _) t₁ h) (λ t₂ f l h₂. is+ _ _ c.kind_at-kind.ensures c.if-kind-eq-CLOSE_BRACE.true (got-at c.moved.ensures h₂)) }
-
-pub member_list-shape_of-w-then-kind-eq-END : goal.member_list-shape_of-w-then-kind-eq-END
-member_list-shape_of-w-then-kind-eq-END t c = c.loop-m.invariant.held.long.words ∙ sym c.requires.held.long.words
-
-pub member_list-shape_of-d-then-kind-eq-END : goal.member_list-shape_of-d-then-kind-eq-END
-member_list-shape_of-d-then-kind-eq-END t c = c.loop-m.invariant.held.long.wides ∙ sym c.requires.held.long.wides
-
-pub member_list-shape_of-v-then-kind-eq-END : goal.member_list-shape_of-v-then-kind-eq-END
-member_list-shape_of-v-then-kind-eq-END t c = c.loop-m.invariant.held.long.signeds ∙ sym c.requires.held.long.signeds
 
 pub member_list-returns-then-kind-eq-END : goal.member_list-returns-then-kind-eq-END
 unfolding members_from
@@ -534,20 +417,11 @@ member_list-loop-m-preserved-then-kind-eq-SEMICOLON t c = record {
 pub member_list-member-requires : goal.member_list-member-requires
 member_list-member-requires t c = (omega (arith, c.decreases), (c.loop-m.invariant.held, (c.requires.readable, c.requires.first_le_max_members)))
 
-pub member_list-shape_of-w-in_default : goal.member_list-shape_of-w-in_default
-member_list-shape_of-w-in_default t c = c.w-1.given ∙ (c.loop-m.invariant.held.long.words ∙ sym c.requires.held.long.words)
-
-pub member_list-shape_of-d-in_default : goal.member_list-shape_of-d-in_default
-member_list-shape_of-d-in_default t c = c.d-1.given ∙ (c.loop-m.invariant.held.long.wides ∙ sym c.requires.held.long.wides)
-
-pub member_list-shape_of-v-in_default : goal.member_list-shape_of-v-in_default
-member_list-shape_of-v-in_default t c = c.v-1.given ∙ (c.loop-m.invariant.held.long.signeds ∙ sym c.requires.held.long.signeds)
-
-pub member_list-returns-in_default : goal.member_list-returns-in_default
+pub member_list-returns-in_err-e : goal.member_list-returns-in_err-e
 unfolding members_from
-member_list-returns-in_default t c = record {
+member_list-returns-in_err-e t c = record {
   run = λ t₁ h. turn (c.loop-m.invariant.going _ (enough _) t₁ h) (λ t₂ f l h₂. is- _ _ c.kind_at-kind.ensures c.if-kind-eq-CLOSE_BRACE.false (is- _ _ c.kind_at-kind.ensures c.if-kind-eq-END.false (is- _ _ c.kind_at-kind.ensures c.if-kind-eq-SEMICOLON.false
-      (exit REPLY _ (c.in_err-e.ensures.run t₂ h₂) c.from_residual.ensures.1 refl))));
+      (exit reply_alone _ (c.in_err-e.ensures.run t₂ h₂) c.from_residual.ensures.1 refl))));
 }
 
 pub member_list-loop-m-smaller : goal.member_list-loop-m-smaller
@@ -570,14 +444,14 @@ one_member-returns-then-kind_at-eq-COLON t c = record { run = λ t₁ h. by (mem
 pub one_member-declared_type-requires : goal.one_member-declared_type-requires
 one_member-declared_type-requires t c = (omega (arith, c.decreases), (c.requires.held, c.requires.readable))
 
-pub one_member-field-requires-in-Done : goal.one_member-field-requires-in-Done
-one_member-field-requires-in-Done t c = (held_next c.in_ok-e.ensures c.requires.held, c.requires.first_le_max_members)
+pub one_member-field-requires-2 : goal.one_member-field-requires-2
+one_member-field-requires-2 t c = (held_next c.in_ok-e.ensures c.requires.held, c.requires.first_le_max_members)
 
-pub one_member-returns-in-Done : goal.one_member-returns-in-Done
-one_member-returns-in-Done t c = record { run = λ t₁ h. by (member-made _ _ _ _ _ _) (is- _ _ c.kind_at.ensures c.if-kind_at-eq-COLON.false (next _ (c.in_ok-e.ensures.run t₁ h) (λ t₂ h₂. (c.field-in-Done.ensures _).run t₂ h₂))) }
+pub one_member-returns : goal.one_member-returns
+one_member-returns t c = record { run = λ t₁ h. by (member-made _ _ _ _ _ _) (is- _ _ c.kind_at.ensures c.if-kind_at-eq-COLON.false (next _ (c.in_ok-e.ensures.run t₁ h) (λ t₂ h₂. (c.field-2.ensures _).run t₂ h₂))) }
 
-pub one_member-returns-in-Refused : goal.one_member-returns-in-Refused
-one_member-returns-in-Refused t c = record { run = λ t₁ h. by (member-made _ _ _ _ _ _) (is- _ _ c.kind_at.ensures c.if-kind_at-eq-COLON.false (exit REPLY _ (c.in_err-e.ensures.run t₁ h) c.from_residual.ensures.1 refl)) }
+pub one_member-returns-in_err-e : goal.one_member-returns-in_err-e
+one_member-returns-in_err-e t c = record { run = λ t₁ h. by (member-made _ _ _ _ _ _) (is- _ _ c.kind_at.ensures c.if-kind_at-eq-COLON.false (exit reply_alone _ (c.in_err-e.ensures.run t₁ h) c.from_residual.ensures.1 refl)) }
 
 pub parameter-specifiers-requires : goal.parameter-specifiers-requires
 parameter-specifiers-requires t c = (omega (arith, c.decreases), (c.requires.held, c.requires.readable))
@@ -588,23 +462,14 @@ parameter-base_type-requires t c = held_next c.in_ok-e.ensures c.requires.held
 pub parameter-declared_type-requires : goal.parameter-declared_type-requires
 parameter-declared_type-requires t c = (omega (arith, c.decreases), (held_next c.in_ok-f.ensures (held_next c.in_ok-e.ensures c.requires.held), c.requires.readable))
 
-pub parameter-shape_of-w-in-Done-r : goal.parameter-shape_of-w-in-Done-r
-parameter-shape_of-w-in-Done-r t c = c.w-in-Done-r-1.given ∙ (c.w-in-Done-1.given ∙ c.w-1.given)
+pub parameter-returns : goal.parameter-returns
+parameter-returns t c = record { run = λ t₁ h. by (parameter-made _ _ _ _) (next _ (c.in_ok-e.ensures.run t₁ h) (λ t₂ h₂. next _ (c.in_ok-f.ensures.run t₂ h₂) (λ t₃ h₃. c.declared_type.ensures.run t₃ h₃))) }
 
-pub parameter-shape_of-d-in-Done-r : goal.parameter-shape_of-d-in-Done-r
-parameter-shape_of-d-in-Done-r t c = c.d-in-Done-r-1.given ∙ (c.d-in-Done-1.given ∙ c.d-1.given)
+pub parameter-returns-in_err-f : goal.parameter-returns-in_err-f
+parameter-returns-in_err-f t c = record { run = λ t₁ h. by (parameter-made _ _ _ _) (next _ (c.in_ok-e.ensures.run t₁ h) (λ t₂ h₂. exit (reply_by typed) _ (c.in_err-f.ensures.run t₂ h₂) c.from_residual-in_err-f.ensures.1 refl)) }
 
-pub parameter-shape_of-v-in-Done-r : goal.parameter-shape_of-v-in-Done-r
-parameter-shape_of-v-in-Done-r t c = c.v-in-Done-r-1.given ∙ (c.v-in-Done-1.given ∙ c.v-1.given)
-
-pub parameter-returns-in-Done-r : goal.parameter-returns-in-Done-r
-parameter-returns-in-Done-r t c = record { run = λ t₁ h. by (parameter-made _ _ _ _) (next _ (c.in_ok-e.ensures.run t₁ h) (λ t₂ h₂. next _ (c.in_ok-f.ensures.run t₂ h₂) (λ t₃ h₃. c.declared_type.ensures.run t₃ h₃))) }
-
-pub parameter-returns-in-Refused-r : goal.parameter-returns-in-Refused-r
-parameter-returns-in-Refused-r t c = record { run = λ t₁ h. by (parameter-made _ _ _ _) (next _ (c.in_ok-e.ensures.run t₁ h) (λ t₂ h₂. exit REPLY _ (c.in_err-f.ensures.run t₂ h₂) c.from_residual.ensures.1 refl)) }
-
-pub parameter-returns-in-Refused : goal.parameter-returns-in-Refused
-parameter-returns-in-Refused t c = record { run = λ t₁ h. by (parameter-made _ _ _ _) (exit REPLY _ (c.in_err-e.ensures.run t₁ h) c.from_residual.ensures.1 refl) }
+pub parameter-returns-in_err-e : goal.parameter-returns-in_err-e
+parameter-returns-in_err-e t c = record { run = λ t₁ h. by (parameter-made _ _ _ _) (exit (reply_by typed) _ (c.in_err-e.ensures.run t₁ h) c.from_residual-in_err-e.ensures.1 refl) }
 
 pub parameters-overflow_cast-first : goal.parameters-overflow_cast-first
 parameters-overflow_cast-first t c = omega (arith, c.requires.held.room.parameters)
@@ -672,17 +537,8 @@ specifiers-loop-m-smaller t c = past_row c.loop-m.invariant c.kind_at-kind.ensur
 pub specifiers-loop-m-preserved : goal.specifiers-loop-m-preserved
 specifiers-loop-m-preserved t c = next_row c.loop-m.invariant c.kind_at-kind.ensures (sym c.is_word.ensures ∙ not-false _ c.if-not-is_word.false-raw) c.in_ok-e.ensures refl (sym c.says_no_type.ensures ∙ c.if-says_no_type.false) (sym c.is_type_word.ensures ∙ c.if-is_type_word.false) (sym c.names_type.ensures ∙ c.if-names_type.false) c.based_on-p.ensures
 
-pub specifiers-shape_of-w-in-Refused : goal.specifiers-shape_of-w-in-Refused
-specifiers-shape_of-w-in-Refused t c = c.w-1.given ∙ (c.loop-m.invariant.held.long.words ∙ sym c.requires.held.long.words)
-
-pub specifiers-shape_of-d-in-Refused : goal.specifiers-shape_of-d-in-Refused
-specifiers-shape_of-d-in-Refused t c = c.d-1.given ∙ (c.loop-m.invariant.held.long.wides ∙ sym c.requires.held.long.wides)
-
-pub specifiers-shape_of-v-in-Refused : goal.specifiers-shape_of-v-in-Refused
-specifiers-shape_of-v-in-Refused t c = c.v-1.given ∙ (c.loop-m.invariant.held.long.signeds ∙ sym c.requires.held.long.signeds)
-
-pub specifiers-returns-in-Refused : goal.specifiers-returns-in-Refused
-specifiers-returns-in-Refused t c = record { run = λ t₁ h. turn (c.loop-m.invariant.going t₁ h) (λ t₂ f l h₂. at_row _ _ _ _ _ _ c.kind_at-kind.ensures (sym c.is_word.ensures ∙ not-false _ c.if-not-is_word.false-raw) (sym c.says_no_type.ensures ∙ c.if-says_no_type.false) (sym c.is_type_word.ensures ∙ c.if-is_type_word.false) (sym c.names_type.ensures ∙ c.if-names_type.false) (exit REPLY _ (c.in_err-e.ensures.run t₂ h₂) c.from_residual.ensures.1 refl)) }
+pub specifiers-returns-in_err-e : goal.specifiers-returns-in_err-e
+specifiers-returns-in_err-e t c = record { run = λ t₁ h. turn (c.loop-m.invariant.going t₁ h) (λ t₂ f l h₂. at_row _ _ _ _ _ _ c.kind_at-kind.ensures (sym c.is_word.ensures ∙ not-false _ c.if-not-is_word.false-raw) (sym c.says_no_type.ensures ∙ c.if-says_no_type.false) (sym c.is_type_word.ensures ∙ c.if-is_type_word.false) (sym c.names_type.ensures ∙ c.if-names_type.false) (exit (reply_by said) _ (c.in_err-e.ensures.run t₂ h₂) c.from_residual.ensures.1 refl)) }
 
 pub suffix-parameters-requires : goal.suffix-parameters-requires
 suffix-parameters-requires t c = (omega (arith, c.decreases), (c.requires.held, c.requires.readable))
@@ -694,47 +550,29 @@ suffix-returns-then-kind-eq-OPEN_PAREN t c = record { run = λ t₁ h. eq+ _ _ _
 pub suffix-array_bound-requires : goal.suffix-array_bound-requires
 suffix-array_bound-requires t c = c.requires.held.room
 
-pub suffix-returns-in-Of : goal.suffix-returns-in-Of
+pub suffix-returns-in-Some : goal.suffix-returns-in-Some
 unfolding suffix_step
-suffix-returns-in-Of t c = record { run = λ t₁ h. eq- _ _ _ _ c.if-kind-eq-OPEN_PAREN.false (next _ ((c.in_ok-e.ensures.with _ _).run t₁ h) (λ t₂ h₂. got_as (array-kept (some _) c.bounded.ensures.kept) h₂)) }
+suffix-returns-in-Some t c = record { run = λ t₁ h. eq- _ _ _ _ c.if-kind-eq-OPEN_PAREN.false (next _ ((c.in_ok-e.ensures.with _ _).run t₁ h) (λ t₂ h₂. got_as (array-kept (some _) c.bounded.ensures.kept) h₂)) }
 
-pub suffix-returns-in-Open : goal.suffix-returns-in-Open
+pub suffix-returns-in-None : goal.suffix-returns-in-None
 unfolding suffix_step
-suffix-returns-in-Open t c = record { run = λ t₁ h. eq- _ _ _ _ c.if-kind-eq-OPEN_PAREN.false (next _ ((c.in_ok-e.ensures.with _ _).run t₁ h) (λ t₂ h₂. got_as (array-kept none c.unbounded.ensures.kept) h₂)) }
+suffix-returns-in-None t c = record { run = λ t₁ h. eq- _ _ _ _ c.if-kind-eq-OPEN_PAREN.false (next _ ((c.in_ok-e.ensures.with _ _).run t₁ h) (λ t₂ h₂. got_as (array-kept none c.unbounded.ensures.kept) h₂)) }
 
-pub suffix-returns-in-Refused : goal.suffix-returns-in-Refused
+pub suffix-returns-in_err-e : goal.suffix-returns-in_err-e
 unfolding suffix_step
-suffix-returns-in-Refused t c = record { run = λ t₁ h. eq- _ _ _ _ c.if-kind-eq-OPEN_PAREN.false (exit REPLY _ ((c.in_err-e.ensures.with _ _).run t₁ h) c.from_residual.ensures.1 refl) }
+suffix-returns-in_err-e t c = record { run = λ t₁ h. eq- _ _ _ _ c.if-kind-eq-OPEN_PAREN.false (exit (reply_by step_of) _ ((c.in_err-e.ensures.with _ _).run t₁ h) c.from_residual.ensures.1 refl) }
 
 pub suffixes-loop-m-init : goal.suffixes-loop-m-init
 suffixes-loop-m-init t c = suffixes-begin c.requires.held c.requires.waiting
 
-pub suffixes-shape_of-w-then-kind-ne-OPEN_PAREN : goal.suffixes-shape_of-w-then-kind-ne-OPEN_PAREN
-suffixes-shape_of-w-then-kind-ne-OPEN_PAREN t c = c.loop-m.invariant.held.long.words ∙ sym c.requires.held.long.words
-
-pub suffixes-shape_of-d-then-kind-ne-OPEN_PAREN : goal.suffixes-shape_of-d-then-kind-ne-OPEN_PAREN
-suffixes-shape_of-d-then-kind-ne-OPEN_PAREN t c = c.loop-m.invariant.held.long.wides ∙ sym c.requires.held.long.wides
-
-pub suffixes-shape_of-v-then-kind-ne-OPEN_PAREN : goal.suffixes-shape_of-v-then-kind-ne-OPEN_PAREN
-suffixes-shape_of-v-then-kind-ne-OPEN_PAREN t c = c.loop-m.invariant.held.long.signeds ∙ sym c.requires.held.long.signeds
-
 pub suffixes-returns-then-kind-ne-OPEN_PAREN : goal.suffixes-returns-then-kind-ne-OPEN_PAREN
-suffixes-returns-then-kind-ne-OPEN_PAREN t c = ended c.loop-m.invariant c.kind_at-kind.ensures c.if-kind-ne-OPEN_BRACKET.true c.if-kind-ne-OPEN_PAREN.true c.new.ensures
+suffixes-returns-then-kind-ne-OPEN_PAREN t c = ended c.loop-m.invariant c.kind_at-kind.ensures c.if-kind-ne-OPEN_BRACKET.true c.if-kind-ne-OPEN_PAREN.true
 
 pub suffixes-overflow_add-at : goal.suffixes-overflow_add-at
 suffixes-overflow_add-at t c = omega (arith, c.requires.readable.few, suffix-there c.loop-m.invariant c.kind_at-kind.ensures (elim c.if-kind-ne-OPEN_BRACKET.branch [ suffixes-then-kind-ne-OPEN_BRACKET+else-kind-ne-OPEN_PAREN w ↦ inr w.if-kind-ne-OPEN_PAREN.false | suffixes-else-kind-ne-OPEN_BRACKET w ↦ inl w.if-kind-ne-OPEN_BRACKET.false ]))
 
-pub suffixes-shape_of-w-then-is_full : goal.suffixes-shape_of-w-then-is_full
-suffixes-shape_of-w-then-is_full t c = c.loop-m.invariant.held.long.words ∙ sym c.requires.held.long.words
-
-pub suffixes-shape_of-d-then-is_full : goal.suffixes-shape_of-d-then-is_full
-suffixes-shape_of-d-then-is_full t c = c.loop-m.invariant.held.long.wides ∙ sym c.requires.held.long.wides
-
-pub suffixes-shape_of-v-then-is_full : goal.suffixes-shape_of-v-then-is_full
-suffixes-shape_of-v-then-is_full t c = c.loop-m.invariant.held.long.signeds ∙ sym c.requires.held.long.signeds
-
 pub suffixes-returns-then-is_full : goal.suffixes-returns-then-is_full
-suffixes-returns-then-is_full t c = full c.loop-m.invariant c.kind_at-kind.ensures (elim c.if-kind-ne-OPEN_BRACKET.branch [ suffixes-then-kind-ne-OPEN_BRACKET+else-kind-ne-OPEN_PAREN w ↦ inr w.if-kind-ne-OPEN_PAREN.false | suffixes-else-kind-ne-OPEN_BRACKET w ↦ inl w.if-kind-ne-OPEN_BRACKET.false ]) c.is_full.ensures c.if-is_full.true c.new-then-is_full.ensures
+suffixes-returns-then-is_full t c = full c.loop-m.invariant c.kind_at-kind.ensures (elim c.if-kind-ne-OPEN_BRACKET.branch [ suffixes-then-kind-ne-OPEN_BRACKET+else-kind-ne-OPEN_PAREN w ↦ inr w.if-kind-ne-OPEN_PAREN.false | suffixes-else-kind-ne-OPEN_BRACKET w ↦ inl w.if-kind-ne-OPEN_BRACKET.false ]) c.is_full.ensures c.if-is_full.true
 
 pub suffixes-overflow_add-at-in-loop-m : goal.suffixes-overflow_add-at-in-loop-m
 suffixes-overflow_add-at-in-loop-m t c = omega (arith, c.requires.readable.few, suffix-there c.loop-m.invariant c.kind_at-kind.ensures (elim c.if-kind-ne-OPEN_BRACKET.branch [ suffixes-then-kind-ne-OPEN_BRACKET+else-kind-ne-OPEN_PAREN w ↦ inr w.if-kind-ne-OPEN_PAREN.false | suffixes-else-kind-ne-OPEN_BRACKET w ↦ inl w.if-kind-ne-OPEN_BRACKET.false ]))
@@ -746,22 +584,13 @@ pub suffixes-push-t-requires : goal.suffixes-push-t-requires
 suffixes-push-t-requires t c = has_room _ c.is_full.ensures c.if-is_full.false
 
 pub suffixes-loop-m-smaller : goal.suffixes-loop-m-smaller
-suffixes-loop-m-smaller t c = suffixes-fewer c.loop-m.invariant c.kind_at-kind.ensures (elim c.if-kind-ne-OPEN_BRACKET.branch [ suffixes-then-kind-ne-OPEN_BRACKET+else-kind-ne-OPEN_PAREN w ↦ inr w.if-kind-ne-OPEN_PAREN.false | suffixes-else-kind-ne-OPEN_BRACKET w ↦ inl w.if-kind-ne-OPEN_BRACKET.false ]) c.is_full.ensures c.if-is_full.false _ c.moved.ensures c.in_ok-e.ensures c.in-Done.is
+suffixes-loop-m-smaller t c = suffixes-fewer c.loop-m.invariant c.kind_at-kind.ensures (elim c.if-kind-ne-OPEN_BRACKET.branch [ suffixes-then-kind-ne-OPEN_BRACKET+else-kind-ne-OPEN_PAREN w ↦ inr w.if-kind-ne-OPEN_PAREN.false | suffixes-else-kind-ne-OPEN_BRACKET w ↦ inl w.if-kind-ne-OPEN_BRACKET.false ]) c.is_full.ensures c.if-is_full.false c.moved.ensures c.in_ok-e.ensures
 
 pub suffixes-loop-m-preserved : goal.suffixes-loop-m-preserved
-suffixes-loop-m-preserved t c = again c.loop-m.invariant c.kind_at-kind.ensures (elim c.if-kind-ne-OPEN_BRACKET.branch [ suffixes-then-kind-ne-OPEN_BRACKET+else-kind-ne-OPEN_PAREN w ↦ inr w.if-kind-ne-OPEN_PAREN.false | suffixes-else-kind-ne-OPEN_BRACKET w ↦ inl w.if-kind-ne-OPEN_BRACKET.false ]) c.is_full.ensures c.if-is_full.false _ c.moved.ensures c.in_ok-e.ensures c.in-Done.is c.push-t.ensures
+suffixes-loop-m-preserved t c = again c.loop-m.invariant c.kind_at-kind.ensures (elim c.if-kind-ne-OPEN_BRACKET.branch [ suffixes-then-kind-ne-OPEN_BRACKET+else-kind-ne-OPEN_PAREN w ↦ inr w.if-kind-ne-OPEN_PAREN.false | suffixes-else-kind-ne-OPEN_BRACKET w ↦ inl w.if-kind-ne-OPEN_BRACKET.false ]) c.is_full.ensures c.if-is_full.false c.moved.ensures c.in_ok-e.ensures c.push-t.ensures
 
-pub suffixes-shape_of-w-in-Refused : goal.suffixes-shape_of-w-in-Refused
-suffixes-shape_of-w-in-Refused t c = c.w-1.given ∙ (c.loop-m.invariant.held.long.words ∙ sym c.requires.held.long.words)
-
-pub suffixes-shape_of-d-in-Refused : goal.suffixes-shape_of-d-in-Refused
-suffixes-shape_of-d-in-Refused t c = c.d-1.given ∙ (c.loop-m.invariant.held.long.wides ∙ sym c.requires.held.long.wides)
-
-pub suffixes-shape_of-v-in-Refused : goal.suffixes-shape_of-v-in-Refused
-suffixes-shape_of-v-in-Refused t c = c.v-1.given ∙ (c.loop-m.invariant.held.long.signeds ∙ sym c.requires.held.long.signeds)
-
-pub suffixes-returns-in-Refused : goal.suffixes-returns-in-Refused
-suffixes-returns-in-Refused t c = suffix-stop c.loop-m.invariant c.kind_at-kind.ensures (elim c.if-kind-ne-OPEN_BRACKET.branch [ suffixes-then-kind-ne-OPEN_BRACKET+else-kind-ne-OPEN_PAREN w ↦ inr w.if-kind-ne-OPEN_PAREN.false | suffixes-else-kind-ne-OPEN_BRACKET w ↦ inl w.if-kind-ne-OPEN_BRACKET.false ]) c.is_full.ensures c.if-is_full.false _ c.moved.ensures c.in_ok-e.ensures c.in-Refused.is c.new-in-Refused.ensures
+pub suffixes-returns-in_err-e : goal.suffixes-returns-in_err-e
+suffixes-returns-in_err-e t c = suffix-stop c.loop-m.invariant c.kind_at-kind.ensures (elim c.if-kind-ne-OPEN_BRACKET.branch [ suffixes-then-kind-ne-OPEN_BRACKET+else-kind-ne-OPEN_PAREN w ↦ inr w.if-kind-ne-OPEN_PAREN.false | suffixes-else-kind-ne-OPEN_BRACKET w ↦ inl w.if-kind-ne-OPEN_BRACKET.false ]) c.is_full.ensures c.if-is_full.false c.moved.ensures c.in_err-e.ensures c.from_residual.ensures.1
 
 pub tag_type-enumeration-requires : goal.tag_type-enumeration-requires
 tag_type-enumeration-requires t c = record { held = c.requires.held; names_fit = c.requires.readable.names }
@@ -783,15 +612,15 @@ type_row-tag_type-requires t c = (omega (arith, c.decreases), (held_at c.moved.e
 pub type_row-returns-then-is_tag_word : goal.type_row-returns-then-is_tag_word
 type_row-returns-then-is_tag_word t c = record { run = λ t₁ h. by-tag _ _ _ _ c.kind_at-kind.ensures c.is_tag_word.ensures c.if-is_tag_word.true (step-on c.moved.ensures c.tag_type.ensures h) }
 
-pub type_row-returns-in_default : goal.type_row-returns-in_default
-type_row-returns-in_default t c = record { run = λ t₁ h. words-by_name _ _ _ _ c.kind_at-kind.ensures c.is_tag_word.ensures c.if-is_tag_word.false (exit REPLY _ (c.in_err-e.ensures.run t₁ h) c.from_residual.ensures.1 refl) }
+pub type_row-returns-in_err-e : goal.type_row-returns-in_err-e
+type_row-returns-in_err-e t c = record { run = λ t₁ h. words-by_name _ _ _ _ c.kind_at-kind.ensures c.is_tag_word.ensures c.if-is_tag_word.false (exit reply _ (c.in_err-e.ensures.run t₁ h) c.from_residual.ensures.1 refl) }
 
 pub type_row-returns : goal.type_row-returns
 type_row-returns t c = record { run = λ t₁ h. words-by_name _ _ _ _ c.kind_at-kind.ensures c.is_tag_word.ensures c.if-is_tag_word.false (next _ (c.in_ok-e.ensures.run t₁ h) (λ t₂ h₂. got-at (past-name _ _ c.in_ok-e.ensures c.requires.held refl refl c.moved-2.ensures) h₂)) }
 
-pub with_tag-returns-in_default : goal.with_tag-returns-in_default
+pub with_tag-returns-in_err-e : goal.with_tag-returns-in_err-e
 unfolding tagged_composite
-with_tag-returns-in_default t c = record { run = λ t₁ h. exit REPLY _ (c.in_err-e.ensures.run t₁ h) c.from_residual.ensures.1 refl }
+with_tag-returns-in_err-e t c = record { run = λ t₁ h. exit reply _ (c.in_err-e.ensures.run t₁ h) c.from_residual-in_err-e.ensures.1 refl }
 
 pub with_tag-returns-then-kind_at-ne-OPEN_BRACE : goal.with_tag-returns-then-kind_at-ne-OPEN_BRACE
 unfolding tagged_composite
@@ -806,36 +635,18 @@ with_tag-body-requires t c = (omega (arith, c.decreases), (held_at c.moved.ensur
 pub with_tag-define_body-requires : goal.with_tag-define_body-requires
 with_tag-define_body-requires t c = held_next c.in_ok-f.ensures (held_at c.moved.ensures (held_next c.in_ok-e.ensures c.requires.held))
 
-pub with_tag-shape_of-w-in-Body : goal.with_tag-shape_of-w-in-Body
-with_tag-shape_of-w-in-Body t c = c.w-in-Body-1.given ∙ (c.w-2-1.given ∙ c.w-1.given)
-
-pub with_tag-shape_of-d-in-Body : goal.with_tag-shape_of-d-in-Body
-with_tag-shape_of-d-in-Body t c = c.d-in-Body-1.given ∙ (c.d-2-1.given ∙ c.d-1.given)
-
-pub with_tag-shape_of-v-in-Body : goal.with_tag-shape_of-v-in-Body
-with_tag-shape_of-v-in-Body t c = c.v-in-Body-1.given ∙ (c.v-2-1.given ∙ c.v-1.given)
-
-pub with_tag-returns-in-Body : goal.with_tag-returns-in-Body
+pub with_tag-returns-2 : goal.with_tag-returns-2
 unfolding tagged_composite define_body
-with_tag-returns-in-Body t c = record {
+with_tag-returns-2 t c = record {
   run = λ t₁ h. next _ (c.in_ok-e.ensures.run t₁ h) (λ t₂ h₂. is+ _ _ c.kind_at.ensures c.if-kind_at-ne-OPEN_BRACE.false
       (next _ (step-on c.moved.ensures c.in_ok-f.ensures h₂) (λ t₃ h₃. got! (c.define_body.ensures.run t₃ h₃))));
 }
 
-pub with_tag-shape_of-w-in-Refused : goal.with_tag-shape_of-w-in-Refused
-with_tag-shape_of-w-in-Refused t c = c.w-2-1.given ∙ c.w-1.given
-
-pub with_tag-shape_of-d-in-Refused : goal.with_tag-shape_of-d-in-Refused
-with_tag-shape_of-d-in-Refused t c = c.d-2-1.given ∙ c.d-1.given
-
-pub with_tag-shape_of-v-in-Refused : goal.with_tag-shape_of-v-in-Refused
-with_tag-shape_of-v-in-Refused t c = c.v-2-1.given ∙ c.v-1.given
-
-pub with_tag-returns-in-Refused : goal.with_tag-returns-in-Refused
+pub with_tag-returns-in_err-f : goal.with_tag-returns-in_err-f
 unfolding tagged_composite
-with_tag-returns-in-Refused t c = record {
+with_tag-returns-in_err-f t c = record {
   run = λ t₁ h. next _ (c.in_ok-e.ensures.run t₁ h) (λ t₂ h₂. is+ _ _ c.kind_at.ensures c.if-kind_at-ne-OPEN_BRACE.false
-      (exit REPLY _ (step-on c.moved.ensures c.in_err-f.ensures h₂) c.from_residual.ensures.1 refl));
+      (exit reply _ (step-on c.moved.ensures c.in_err-f.ensures h₂) c.from_residual-in_err-f.ensures.1 refl));
 }
 
 pub without_tag-returns-then-kind_at-ne-OPEN_BRACE : goal.without_tag-returns-then-kind_at-ne-OPEN_BRACE
@@ -851,10 +662,10 @@ without_tag-body-requires t c = (omega (arith, c.decreases), (held_at c.moved.en
 pub without_tag-add_body-requires : goal.without_tag-add_body-requires
 without_tag-add_body-requires t c = (held_next c.in_ok-f.ensures (held_at c.moved.ensures c.requires.held), first_fits _ _ _ _ _ c.in_ok-f.ensures (held_at c.moved.ensures c.requires.held) refl)
 
-pub without_tag-returns-in-Body : goal.without_tag-returns-in-Body
+pub without_tag-returns : goal.without_tag-returns
 unfolding untagged_composite
-without_tag-returns-in-Body t c = record { run = λ t₁ h. is+ _ _ c.kind_at.ensures c.if-kind_at-ne-OPEN_BRACE.false (next _ (step-on c.moved.ensures c.in_ok-f.ensures h) (λ t₂ h₂. c.add_body.ensures.run t₂ h₂)) }
+without_tag-returns t c = record { run = λ t₁ h. is+ _ _ c.kind_at.ensures c.if-kind_at-ne-OPEN_BRACE.false (next _ (step-on c.moved.ensures c.in_ok-f.ensures h) (λ t₂ h₂. c.add_body.ensures.run t₂ h₂)) }
 
-pub without_tag-returns-in-Refused : goal.without_tag-returns-in-Refused
+pub without_tag-returns-in_err-f : goal.without_tag-returns-in_err-f
 unfolding untagged_composite
-without_tag-returns-in-Refused t c = record { run = λ t₁ h. is+ _ _ c.kind_at.ensures c.if-kind_at-ne-OPEN_BRACE.false (exit REPLY _ (step-on c.moved.ensures c.in_err-f.ensures h) c.from_residual.ensures.1 refl) }
+without_tag-returns-in_err-f t c = record { run = λ t₁ h. is+ _ _ c.kind_at.ensures c.if-kind_at-ne-OPEN_BRACE.false (exit reply _ (step-on c.moved.ensures c.in_err-f.ensures h) c.from_residual.ensures.1 refl) }
