@@ -76,10 +76,14 @@ pub stops : {f : Reads Declarator} {c : Cursor} {s : Steps} {w d w' d' : List �
     → ((t : Table) → Encodes t c w d v → Shows both (f (state c t)) (bad (number_of z.reason) z.at) w' d' v') → Declares f c s w d v (Err z) w' d' v'
 stops z k = record { does = record { run = k }; stars = λ e x q. unlike q; waits = λ e x q. unlike q }
 
+-- what an answer holds
+same_ok : {y y' : Cursor × Declared} → ◌≡◌ {A = Answered} (Ok y) (Ok y') → y ≡ y'
+same_ok q = cc
+
 -- the same at a `?`
-pub stopped : {f : Reads Declarator} {c : Cursor} {s : Steps} {w d w' d' : List ℕ} {v v' : List ℤ} {r : Answered} {z : Refusal} → IsErrAnd r (λ y. y ≡ z)
+pub stopped : {f : Reads Declarator} {c : Cursor} {s : Steps} {w d w' d' : List ℕ} {v v' : List ℤ} {r : Answered} (z : Refusal) → IsErrAnd r (λ y. y ≡ z)
     → ((t : Table) → Encodes t c w d v → Shows both (f (state c t)) (bad (number_of z.reason) z.at) w' d' v') → Declares f c s w d v r w' d' v'
-stopped {r = r} {z} q k = let x = err_from_is_err_and r q in rw (x.1, x.2) (stops z k)
+stopped {r = r} z q k = let x = err_from_is_err_and r q in rw (x.1, x.2) (stops z k)
 
 -- one that is declared: what the slices hold, and how many steps there can be
 module _ {f : Reads Declarator} {c e : Cursor} {s : Steps} {w d w' d' : List ℕ} {v v' : List ℤ} {x : Declared} (g : Declares f c s w d v (Ok (e, x)) w' d' v') where
@@ -129,16 +133,16 @@ module _ (inner : Levels) (b : ℕ) {c : Cursor} {s : Steps} {w d w' d' : List �
   first : {r : Answered} → Declares (inner.declarator s.held) c s w d v r w' d' v' → Does (inner.declarator 0) c w d v (reply_by declared r) w' d' v'
   first {r} g = subst (λ (i : ℕ). Does (inner.declarator i) c w d v (reply_by declared r) w' d' v') (held-is s (none-pending e)) g.does
 
-  pub typed-stop : {z : Refusal} {r : Result (Cursor × Typed) Refusal} → Declares (inner.declarator s.held) c s w d v (Err z) w' d' v' → IsErrAnd r (λ y. y ≡ z)
+  pub typed-stop : (z : Refusal) (r : Result (Cursor × Typed) Refusal) → Declares (inner.declarator s.held) c s w d v (Err z) w' d' v' → IsErrAnd r (λ y. y ≡ z)
       → Runs both_numbers (typed_from inner b) c w d v (reply_by typed r) w' d' v'
   unfolding typed_from
-  typed-stop g q = record { run = λ t h. exit (reply_by typed) _ ((first g).run t h) q refl }
+  typed-stop z r g q = record { run = λ t h. exit (reply_by typed) _ ((first g).run t h) q refl }
 
   module _ {f : Cursor} {x : Declared} (g : Declares (inner.declarator s.held) c s w d v (Ok (f, x)) w' d' v') {w'' d'' : List ℕ} {v'' : List ℤ} where
-    pub typed-refused : {z : Refusal} {r : Result (Cursor × Typed) Refusal} → Does (apply (pending x.steps).steps b) f w' d' v' (bad (number_of z.reason) z.at) w'' d'' v'' → IsErrAnd r (λ y. y ≡ z)
+    pub typed-refused : (z : Refusal) (r : Result (Cursor × Typed) Refusal) → Does (apply (pending x.steps).steps b) f w' d' v' (bad (number_of z.reason) z.at) w'' d'' v'' → IsErrAnd r (λ y. y ≡ z)
         → Runs both_numbers (typed_from inner b) c w d v (reply_by typed r) w'' d'' v''
     unfolding typed_from
-    typed-refused a q = record { run = λ t h. next _ ((first g).run t h) (λ t₁ h₁. exit (reply_by typed) _ (a.run t₁ h₁) q refl) }
+    typed-refused z r a q = record { run = λ t h. next _ ((first g).run t h) (λ t₁ h₁. exit (reply_by typed) _ (a.run t₁ h₁) q refl) }
 
     pub typed-done : {e' : Cursor} {type : ℕ} → Does (apply (pending x.steps).steps b) f w' d' v' (ok e' type) w'' d'' v'' → Runs both_numbers (typed_from inner b) c w d v (ok e' (type, x.name)) w'' d'' v''
     unfolding typed_from
@@ -169,7 +173,7 @@ module _ (ks ns : List ℕ) (m : Model) (room : ℕ) {c : Cursor} {s : Steps} (w
 
   pub stars-stop : {i : Refusal} {r : Answered} → t.answer ≡ Err i → IsErrAnd r (λ y. y ≡ i) → Declares ((levels (tokens ks ns) m room).declarator s.held) c s w d v r w d v
   unfolding declarator₁
-  stars-stop q j = stopped j (λ b h. by (a-declarator (tokens ks ns) m s.held (state c b) z) (refuse _ (read-stars.run b h) (ap (stars g.read) q) refl))
+  stars-stop q j = stopped _ j (λ b h. by (a-declarator (tokens ks ns) m s.held (state c b) z) (refuse _ (read-stars.run b h) (ap (stars g.read) q) refl))
 
   module _ {e : Cursor} (q : t.answer ≡ Ok e) {w' d' : List ℕ} {v' : List ℤ} where
     rest : {r : Answered} → Declares ((levels (tokens ks ns) m (room - 1)).direct t.steps.held) e t.steps w d v r w' d' v'
@@ -179,7 +183,7 @@ module _ (ks ns : List ℕ) (m : Model) (room : ℕ) {c : Cursor} {s : Steps} (w
     pub direct-stop : {i : Refusal} {r : Answered} → Declares ((levels (tokens ks ns) m (room - 1)).direct t.steps.held) e t.steps w d v (Err i) w' d' v' → IsErrAnd r (λ y. y ≡ i)
         → Declares ((levels (tokens ks ns) m room).declarator s.held) c s w d v r w' d' v'
     unfolding declarator₁
-    direct-stop f j = stopped j (λ b h. by (a-declarator (tokens ks ns) m s.held (state c b) z)
+    direct-stop f j = stopped _ j (λ b h. by (a-declarator (tokens ks ns) m s.held (state c b) z)
         (call _ (read-stars.run b h) (ap (stars g.read) q) (λ b₁ h₁. refuse _ ((rest f).run b₁ h₁) refl refl)))
 
     module _ {e' : Cursor} {x : Declared} (f : Declares ((levels (tokens ks ns) m (room - 1)).direct t.steps.held) e t.steps w d v (Ok (e', x)) w' d' v') where
@@ -222,8 +226,8 @@ module _ (ks ns : List ℕ) (m : Model) (room : ℕ) {c : Cursor} {s : Steps} (w
             run = λ b h. by (a-declarator (tokens ks ns) m s.held (state c b) z) (call _ (read-stars.run b h) (ap (stars g.read) q)
                 (λ b₁ h₁. next _ ((rest f).run b₁ h₁) (λ b₂ h₂. got_as (ap (λ p. record { steps = p.steps; name = x.name }) all) h₂)));
           };
-          stars = λ e₁ x₁ k₁. let i : x₁.steps ≡ u = cc in ap (λ a. (pending a).stars) i ∙ ap (λ p. p.stars) all;
-          waits = λ e₁ x₁ k₁. let i : x₁.steps ≡ u = cc in rw i still;
+          stars = λ e₁ x₁ k₁. ap (λ y. (pending y.1.steps).stars) (sym (same_ok k₁)) ∙ ap (λ p. p.stars) all;
+          waits = λ e₁ x₁ k₁. subst (λ (y : Cursor × Declared). Waiting y.1.steps s.held) (same_ok k₁) still;
         }
 
 -- ---- `direct`
@@ -277,7 +281,7 @@ module _ (ks ns : List ℕ) (m : Model) (room : ℕ) {c : Cursor} {s : Steps} {w
       module _ {c' : Cursor} {w₁ d₁ : List ℕ} {v₁ : List ℤ} (k : c' ≡ moved_to c (c.at + 1)) where
         pub inner-stop : {j : Refusal} {r : Answered} → Declares ((levels (tokens ks ns) m (room - 1)).declarator s.held) c' s w d v (Err j) w₁ d₁ v₁ → IsErrAnd r (λ y. y ≡ j)
             → Declares ((levels (tokens ks ns) m room).direct s.held) c s w d v r w₁ d₁ v₁
-        inner-stop g y = stopped y (λ b h. by (inner-is b h) (refuse _ (step-on k g.does h) refl refl))
+        inner-stop g y = stopped _ y (λ b h. by (inner-is b h) (refuse _ (step-on k g.does h) refl refl))
 
         module _ {e' : Cursor} {t : Declared} {j : ℕ} (g : Declares ((levels (tokens ks ns) m (room - 1)).declarator s.held) c' s w d v (Ok (e', t)) w₁ d₁ v₁) (p : Peek ks e'.at j) where
           pub not_closed_lem : (j ≡ close_paren → ⊥) → Declares ((levels (tokens ks ns) m room).direct s.held) c s w d v (Err (record { reason = MissingMark; at = e'.at })) w₁ d₁ v₁
@@ -334,8 +338,8 @@ module _ {ks ns : List ℕ} {m : Model} {room name : ℕ} {c : Cursor} {s : Step
     does = record {
       run = λ x h. turn (g.going x h) (λ x₁ f l h₁. by (no_suffix (tokens ks ns) m (levels (tokens ks ns) m room) f s.held (declarator_of t name) (state here x₁) (λ q. a (p.is ∙ q)) (λ q. b (p.is ∙ q))) (got! h₁));
     };
-    stars = λ e₁ x₁ q₁. let i : x₁.steps ≡ t = cc in ap (λ y. (pending y).stars) i ∙ g.stars;
-    waits = λ e₁ x₁ q₁. let i : x₁.steps ≡ t = cc in rw i (record { stars = omega (arith, same-held t s g.stars); apart = g.apart });
+    stars = λ e₁ x₁ q₁. ap (λ y. (pending y.1.steps).stars) (sym (same_ok q₁)) ∙ g.stars;
+    waits = λ e₁ x₁ q₁. subst (λ (y : Cursor × Declared). Waiting y.1.steps s.held) (same_ok q₁) (record { stars = omega (arith, same-held t s g.stars); apart = g.apart });
   }
 
   module _ {k : ℕ} (p : Peek ks here.at k) (a : (k ≡ open_bracket) ⊎ (k ≡ open_paren)) where
@@ -369,11 +373,11 @@ module _ {ks ns : List ℕ} {m : Model} {room name : ℕ} {c : Cursor} {s : Step
               → Does (suffix_step (tokens ks ns) m (levels (tokens ks ns) m room) (kind_at (tokens ks ns) here.at)) c' w d v r w' d' v'
           here-step {r} f = subst (λ (j : ℕ). Does (suffix_step (tokens ks ns) m (levels (tokens ks ns) m room) j) c' w d v r w' d' v') p.is f
 
-          pub suffix-stop : {j : Refusal} {r : Answered} → Does (suffix_step (tokens ks ns) m (levels (tokens ks ns) m room) k) c' w d v (bad (number_of j.reason) j.at) w' d' v' → IsErrAnd r (λ y. y ≡ j)
+          pub suffix-stop : (j : Refusal) {r : Answered} → Does (suffix_step (tokens ks ns) m (levels (tokens ks ns) m room) k) c' w d v (bad (number_of j.reason) j.at) w' d' v' → IsErrAnd r (λ y. y ≡ j)
               → Declares (suffixes (tokens ks ns) m (levels (tokens ks ns) m room) s.held (declarator_of s name)) c s w₀ d₀ v₀ r w' d' v'
-          suffix-stop f z = stopped z (λ b h. turn (g.going b h) (λ b₁ l j h₁. by (made-is l (state here b₁) (sym p.is) a low) (refuse _ (step-on i (here-step f) h₁) refl refl)))
+          suffix-stop j f z = stopped j z (λ b h. turn (g.going b h) (λ b₁ l j h₁. by (made-is l (state here b₁) (sym p.is) a low) (refuse _ (step-on i (here-step f) h₁) refl refl)))
 
-          module _ {e' : Cursor} {y : Kept} (f : Does (suffix_step (tokens ks ns) m (levels (tokens ks ns) m room) k) c' w d v (ok e' (step_of y)) w' d' v') where
+          module _ {e' : Cursor} (y : Kept) (f : Does (suffix_step (tokens ks ns) m (levels (tokens ks ns) m room) k) c' w d v (ok e' (step_of y)) w' d' v') where
             pub suffix-held : Held e' w' d' v'
             suffix-held = held_next f (held_at i g.held)
 

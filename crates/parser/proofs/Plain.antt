@@ -63,13 +63,6 @@ module _ (ks : List ℕ) (i : ℕ) (e : is_plain ks i ≡ true) where
   no_paren : get_or ks (i + 1) 0 ≡ open_paren → ⊥
   no_paren = eqb-false _ _ (not-true _ (and_elim_right (not (eqb (get_or ks (i + 1) 0) open_bracket)) _ no_suffixes))
 
--- one of these tests, and that there are levels enough
-pub is_so : {x p : Bool} (y : Bool) → x ≡ p → (x && y) ≡ true → p ≡ true
-is_so y q e = sym q ∙ and_elim_left _ y e
-
-pub has_levels : {x p : Bool} (room : ℕ) → x ≡ p → (x && leb 2 room) ≡ true → 2 ≤ room
-has_levels {x} room q e = leb-true 2 room (and_elim_right x _ e)
-
 -- a star before a name, where the qualifiers between them were read
 module _ (ks : List ℕ) (i : ℕ) (e : is_plain_pointer ks i ≡ true) where
   pub a-star : get_or ks i 0 ≡ star
@@ -134,6 +127,6 @@ module _ (ks ns : List ℕ) (m : Model) (room b : ℕ) (c : Cursor) (h : 2 ≤ r
           → Runs both_numbers (typed_from (levels (tokens ks ns) m room) b) c w d v (ok e' (type, name)) w' d' v'
       pointer-done a p = record { run = λ t g. by (made t) (call _ (step-on k a g) refl (λ t₁ h₁. rw (sym p.is) (got! h₁))) }
 
-      pub pointer-refused : {z : Refusal} {r : Result (Cursor × Typed) Refusal} → Does (apply (pointer_step (q) ∷ []) b) c' w d v (bad (number_of z.reason) z.at) w' d' v' → IsErrAnd r (λ y. y ≡ z)
+      pub pointer-refused : (z : Refusal) (r : Result (Cursor × Typed) Refusal) → Does (apply (pointer_step (q) ∷ []) b) c' w d v (bad (number_of z.reason) z.at) w' d' v' → IsErrAnd r (λ y. y ≡ z)
           → Runs both_numbers (typed_from (levels (tokens ks ns) m room) b) c w d v (reply_by typed r) w' d' v'
-      pointer-refused a z = record { run = λ t g. by (made t) (exit (reply_by typed) _ (step-on k a g) z refl) }
+      pointer-refused z r a q = record { run = λ t g. by (made t) (exit (reply_by typed) _ (step-on k a g) q refl) }

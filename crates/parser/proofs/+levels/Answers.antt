@@ -31,7 +31,7 @@ use Rattle.parser.specs.Pieces.{declarators_in}
 use Rattle.parser.proofs.Goes.{moves-on}
 use Rattle.parser.proofs.Lists.{Reading, begin, fewer, lone}
 use Rattle.parser.proofs.Declaring.{starts-empty, typed-stop, declared_held, declared_few, typed-refused, typed-done}
-use Rattle.parser.proofs.Plain.{a-name as plain-name, name-there, is_so, has_levels, typed-plain}
+use Rattle.parser.proofs.Plain.{a-name as plain-name, name-there, typed-plain}
 use Rattle.table.proofs.Shown.{no!, held_at}
 use Rattle.table.proofs.Steps.{there}
 use mathlib.Core.Bool.{not}
@@ -54,7 +54,6 @@ use Rattle.table.proofs.Shown.{no!, call, refuse, held_on}
 use Rattle.encoding.proofs.Numbered.{has_class, no_class}
 use Rattle.definition_laws.proofs.Progress.{specifiers-on, levels-on}
 use Rattle.definition_laws.proofs.TableProgress.{base_type-stays}
-use Rattle.parser.specs.Answers.{specified}
 use Rattle.parser.proofs.Made.{declaration-made}
 use Rattle.parser.proofs.Goes.{on, stays}
 use Rattle.parser.proofs.Composites.{enough as member-enough}
@@ -80,7 +79,8 @@ use Rattle.table.proofs.Shown.{call, refuse}
 use Rattle.parser.specs.Pieces.{suffix_step}
 use Rattle.declarator_steps.proofs.Views.{array-kept}
 use Rattle.parser.proofs.Declaring.{got_as}
-use Rattle.bounds_widths.specs.Parts.{bound}
+use Rattle.lemmas.specs.Options.{option}
+use Rattle.definition.specs.Grammar.{array_step}
 use Rattle.table.proofs.Shown.{held, held_at}
 use mathlib.Core.Logic.{⊎_elim, inl, inr}
 use Rattle.declarator_heads.proofs.Rounds.{has_room}
@@ -95,7 +95,10 @@ use Rattle.table.proofs.Shown.{no!, call, refuse, held_at, held_on, step-on}
 use Rattle.definition.specs.Composite.{untagged_composite}
 use Rattle.parser.proofs.Composites.{first_fits}
 use Rattle.parser.proofs.+levels.Goals as goal
-use Rattle.parser.proofs.+levels.Goals.{suffixes-then-kind-ne-OPEN_BRACKET+else-kind-ne-OPEN_PAREN, suffixes-else-kind-ne-OPEN_BRACKET}
+use Rattle.declarator_steps.specs.Pending.{step_of}
+use Rattle.table.specs.Reply.{reply, reply_by, reply_alone}
+use Rattle.std.specs.Result.{result_from_control_flow}
+use Rattle.parser.proofs.+levels.Goals.{suffixes-else-kind-ne-OPEN_BRACKET-via-then-kind-ne-OPEN_BRACKET+else-kind-ne-OPEN_PAREN, suffixes-else-kind-ne-OPEN_BRACKET-via-else-kind-ne-OPEN_BRACKET}
 
 pub after_type-overflow_add-i : goal.after_type-overflow_add-i
 after_type-overflow_add-i t c = omega (arith, there c.kind_at.ensures c.if-kind_at-eq-SEMICOLON.true, c.requires.readable.few)
@@ -159,28 +162,28 @@ pub declarator-stars-t-requires : goal.declarator-stars-t-requires
 declarator-stars-t-requires t c = omega (arith, c.requires.starting.waiting.apart)
 
 pub declarator-returns-in_err-e : goal.declarator-returns-in_err-e
-declarator-returns-in_err-e t c = stars-stop _ _ _ _ _ _ _ c.requires.starting c.if-room-eq0.false c.stars-t.ensures c.in_err-e.is c.from_residual-in_err-e.ensures.1
+declarator-returns-in_err-e t c = stars-stop _ _ _ _ _ _ _ c.requires.starting c.if-room-eq0.false c.stars-t.ensures (c.branch-e.ensures ∙ ap result_from_control_flow c.in_err-e.is) c.from_residual.ensures.1
 
 pub declarator-overflow_sub-room : goal.declarator-overflow_sub-room
 declarator-overflow_sub-room t c = omega (arith, c.if-room-eq0.false)
 
 pub declarator-direct-requires : goal.declarator-direct-requires
-declarator-direct-requires t c = (omega (arith, c.decreases, c.if-room-eq0.false), (stars-held c.stars-t.ensures c.in_ok-e.is c.requires.held, (c.requires.readable, stars_starting c.requires.starting c.stars-t.ensures)))
+declarator-direct-requires t c = (omega (arith, c.decreases, c.if-room-eq0.false), (stars-held c.stars-t.ensures (c.branch-e.ensures ∙ ap result_from_control_flow c.in_ok-e.is) c.requires.held, (c.requires.readable, stars_starting c.requires.starting c.stars-t.ensures)))
 
 pub declarator-returns-then-all-used : goal.declarator-returns-then-all-used
-declarator-returns-then-all-used t c = unstarred _ _ _ _ _ _ _ c.requires.starting c.if-room-eq0.false c.stars-t.ensures c.in_ok-e.is c.in_ok-f.ensures c.if-all-used.true
+declarator-returns-then-all-used t c = unstarred _ _ _ _ _ _ _ c.requires.starting c.if-room-eq0.false c.stars-t.ensures (c.branch-e.ensures ∙ ap result_from_control_flow c.in_ok-e.is) c.in_ok-f.ensures c.if-all-used.true
 
 pub declarator-returns-in_err-f : goal.declarator-returns-in_err-f
-declarator-returns-in_err-f t c = direct-stop _ _ _ _ _ _ _ c.requires.starting c.if-room-eq0.false c.stars-t.ensures c.in_ok-e.is c.in_err-f.ensures c.from_residual-in_err-f.ensures.1
+declarator-returns-in_err-f t c = direct-stop _ _ _ _ _ _ _ c.requires.starting c.if-room-eq0.false c.stars-t.ensures (c.branch-e.ensures ∙ ap result_from_control_flow c.in_ok-e.is) c.in_err-f.ensures c.from_residual-in_err-f.ensures.1
 
 pub declarator-overflow_sub-all : goal.declarator-overflow_sub-all
 declarator-overflow_sub-all t c = omega (arith, c.stars-t.ensures.holds.held)
 
-pub declarator-release_stars-requires : goal.declarator-release_stars-requires
-declarator-release_stars-requires t c = stars_wait _ _ _ _ _ _ _ c.requires.starting c.if-room-eq0.false c.stars-t.ensures c.in_ok-e.is c.in_ok-f.ensures
+pub declarator-release_stars-steps-requires : goal.declarator-release_stars-steps-requires
+declarator-release_stars-steps-requires t c = stars_wait _ _ _ _ _ _ _ c.requires.starting c.if-room-eq0.false c.stars-t.ensures (c.branch-e.ensures ∙ ap result_from_control_flow c.in_ok-e.is) c.in_ok-f.ensures
 
 pub declarator-returns : goal.declarator-returns
-declarator-returns t c = direct-done _ _ _ _ _ _ _ c.requires.starting c.if-room-eq0.false c.stars-t.ensures c.in_ok-e.is c.in_ok-f.ensures _ c.release_stars.ensures
+declarator-returns t c = direct-done _ _ _ _ _ _ _ c.requires.starting c.if-room-eq0.false c.stars-t.ensures (c.branch-e.ensures ∙ ap result_from_control_flow c.in_ok-e.is) c.in_ok-f.ensures _ c.release_stars-steps.ensures
 
 pub declarators-loop-e-init : goal.declarators-loop-e-init
 declarators-loop-e-init t c = begin c.requires.held
@@ -218,19 +221,19 @@ declarators-loop-e-preserved t c = record {
 }
 
 pub declared_type-overflow_add-at : goal.declared_type-overflow_add-at
-declared_type-overflow_add-at t c = omega (arith, name-there _ _ (is_so _ c.is_plain.ensures c.if-is_plain-room.true))
+declared_type-overflow_add-at t c = omega (arith, name-there _ _ (sym c.is_plain.ensures ∙ c.if-is_plain.true))
 
-pub declared_type-name_at-requires : goal.declared_type-name_at-requires
-declared_type-name_at-requires t c = c.requires.readable.names.fit _ (plain-name _ _ (is_so _ c.is_plain.ensures c.if-is_plain-room.true))
+pub declared_type-name_at-name-requires : goal.declared_type-name_at-name-requires
+declared_type-name_at-name-requires t c = c.requires.readable.names.fit _ (plain-name _ _ (sym c.is_plain.ensures ∙ c.if-is_plain.true))
 
-pub declared_type-returns-then-is_plain-room : goal.declared_type-returns-then-is_plain-room
-declared_type-returns-then-is_plain-room t c = typed-plain _ _ _ _ _ _ (has_levels _ c.is_plain.ensures c.if-is_plain-room.true) (is_so _ c.is_plain.ensures c.if-is_plain-room.true) c.name_at.ensures c.moved.ensures
+pub declared_type-returns-then-room-ge-NAME_LEVELS : goal.declared_type-returns-then-room-ge-NAME_LEVELS
+declared_type-returns-then-room-ge-NAME_LEVELS t c = typed-plain _ _ _ _ _ _ c.if-room-ge-NAME_LEVELS.true (sym c.is_plain.ensures ∙ c.if-is_plain.true) c.name_at-name.ensures c.moved.ensures
 
 pub declared_type-pointer_type-requires : goal.declared_type-pointer_type-requires
-declared_type-pointer_type-requires t c = record { held = c.requires.held; readable = c.requires.readable; at_value = is_so _ c.is_plain_pointer.ensures c.if-is_plain_pointer-room.true }
+declared_type-pointer_type-requires t c = record { held = c.requires.held; readable = c.requires.readable; at_value = sym c.is_plain_pointer.ensures ∙ c.if-is_plain_pointer.true }
 
-pub declared_type-returns-then-is_plain_pointer-room : goal.declared_type-returns-then-is_plain_pointer-room
-declared_type-returns-then-is_plain_pointer-room t c = c.pointer_type.ensures.of _ _ (has_levels _ c.is_plain_pointer.ensures c.if-is_plain_pointer-room.true)
+pub declared_type-returns-then-room-ge-NAME_LEVELS-2 : goal.declared_type-returns-then-room-ge-NAME_LEVELS-2
+declared_type-returns-then-room-ge-NAME_LEVELS-2 t c = c.pointer_type.ensures.of _ _ c.if-room-ge-NAME_LEVELS-2.true
 
 pub declared_type-declarator-requires : goal.declared_type-declarator-requires
 declared_type-declarator-requires t c = (omega (arith, c.decreases), (c.requires.held, (c.requires.readable, starts-empty _ c.empty.ensures.kept)))
@@ -242,10 +245,10 @@ pub declared_type-returns : goal.declared_type-returns
 declared_type-returns t c = typed-done _ _ c.empty.ensures.kept c.in_ok-e.ensures c.in_ok-f.ensures
 
 pub declared_type-returns-in_err-f : goal.declared_type-returns-in_err-f
-declared_type-returns-in_err-f t c = typed-refused _ _ c.empty.ensures.kept c.in_ok-e.ensures c.in_err-f.ensures c.from_residual-in_err-f.ensures.1
+declared_type-returns-in_err-f t c = typed-refused _ _ c.empty.ensures.kept c.in_ok-e.ensures _ _ c.in_err-f.ensures c.from_residual-in_err-f.ensures.1
 
 pub declared_type-returns-in_err-e : goal.declared_type-returns-in_err-e
-declared_type-returns-in_err-e t c = typed-stop _ _ c.empty.ensures.kept c.in_err-e.ensures c.from_residual-in_err-e.ensures.1
+declared_type-returns-in_err-e t c = typed-stop _ _ c.empty.ensures.kept _ _ c.in_err-e.ensures c.from_residual.ensures.1
 
 pub direct-returns-then-room-eq0 : goal.direct-returns-then-room-eq0
 direct-returns-then-room-eq0 t c = stops _ (λ b h. by (no_direct _ _ _ _ c.if-room-eq0.true) (no! h refl))
@@ -310,7 +313,7 @@ list-parameter-requires t c = (omega (arith, c.decreases), (c.loop-m.invariant.r
 
 pub list-returns-in_err-e : goal.list-returns-in_err-e
 unfolding parameters_from
-list-returns-in_err-e t c = record { run = λ t₁ h. turn (c.loop-m.invariant.reading.going _ (enough _) t₁ h) (λ t₂ f l h₂. is- _ _ c.kind_at.ensures c.if-kind_at-eq-ELLIPSIS.false (exit (reply_by step_of) _ (c.in_err-e.ensures.run t₂ h₂) c.from_residual-in_err-e.ensures.1 refl)) }
+list-returns-in_err-e t c = record { run = λ t₁ h. turn (c.loop-m.invariant.reading.going _ (enough _) t₁ h) (λ t₂ f l h₂. is- _ _ c.kind_at.ensures c.if-kind_at-eq-ELLIPSIS.false (exit (reply_by step_of) _ (c.in_err-e.ensures.run t₂ h₂) c.from_residual.ensures.1 refl)) }
 
 pub list-returns-then-is_void_list : goal.list-returns-then-is_void_list
 unfolding parameters_from
@@ -336,14 +339,14 @@ pub list-returns-then-kind_at-ne-COMMA : goal.list-returns-then-kind_at-ne-COMMA
 unfolding parameters_from
 list-returns-then-kind_at-ne-COMMA t c = record {
   run = λ t₁ h. turn (c.loop-m.invariant.reading.going _ (enough _) t₁ h) (λ t₂ f l h₂. is- _ _ c.kind_at.ensures c.if-kind_at-eq-ELLIPSIS.false (next _ (c.in_ok-e.ensures.run t₂ h₂)
-      (λ t₃ h₃. nay! _ _ _ (sym (c.is_void_list.ensures.of _ t₃) ∙ c.if-is_void_list.false) (entered _ _ _ _ _ _ (next _ (c.in_ok-f.ensures.run t₃ h₃) (λ t₄ h₄. is- _ _ c.kind_at-3.ensures c.if-kind_at-ne-COMMA.true (counted-end _ _ _ _ _ _ _ ((c.parameters_end-then-kind_at-ne-COMMA.ensures.with c.args.numbers.now (model c.args.m) (levels (tokens c.args.kinds.now c.args.numbers.now) (model c.args.m) c.args.room) _ _ _).run t₄ h₄))))))));
+      (λ t₃ h₃. nay! _ _ _ (sym (c.is_void_list.ensures.of _ t₃) ∙ c.if-is_void_list.false) (entered _ _ _ _ _ _ (next _ (c.in_ok-f.ensures.run t₃ h₃) (λ t₄ h₄. is- _ _ c.kind_at-in-loop-m.ensures c.if-kind_at-ne-COMMA.true (counted-end _ _ _ _ _ _ _ ((c.parameters_end-then-kind_at-ne-COMMA.ensures.with c.args.numbers.now (model c.args.m) (levels (tokens c.args.kinds.now c.args.numbers.now) (model c.args.m) c.args.room) _ _ _).run t₄ h₄))))))));
 }
 
 pub list-overflow_add-i : goal.list-overflow_add-i
-list-overflow_add-i t c = omega (arith, c.well_formed.0.1, there c.kind_at-3.ensures c.if-kind_at-ne-COMMA.false)
+list-overflow_add-i t c = omega (arith, c.well_formed.0.1, there c.kind_at-in-loop-m.ensures c.if-kind_at-ne-COMMA.false)
 
 pub list-loop-m-smaller : goal.list-loop-m-smaller
-list-loop-m-smaller t c = (fewer _ _ c.moved-here.ensures (entry-on (typed-on c.in_ok-e.ensures c.loop-m.invariant.reading.held refl (parameter-on _ _ _ (levels-on _ _ _))) (stays c.in_ok-f.ensures (held_next c.in_ok-e.ensures c.loop-m.invariant.reading.held) refl (added_parameter-stays _ _ _ _))) (there c.kind_at-3.ensures c.if-kind_at-ne-COMMA.false))
+list-loop-m-smaller t c = (fewer _ _ c.moved-here.ensures (entry-on (typed-on c.in_ok-e.ensures c.loop-m.invariant.reading.held refl (parameter-on _ _ _ (levels-on _ _ _))) (stays c.in_ok-f.ensures (held_next c.in_ok-e.ensures c.loop-m.invariant.reading.held) refl (added_parameter-stays _ _ _ _))) (there c.kind_at-in-loop-m.ensures c.if-kind_at-ne-COMMA.false))
 
 pub list-loop-m-preserved : goal.list-loop-m-preserved
 unfolding parameters_from
@@ -351,10 +354,10 @@ list-loop-m-preserved t c = record {
   reading = record {
     held = held_at c.moved-here.ensures (held_next c.in_ok-f.ensures (held_next c.in_ok-e.ensures c.loop-m.invariant.reading.held));
     going = λ k p t₁ h. turn (c.loop-m.invariant.reading.going k p t₁ h) (λ t₂ f l h₂. is- _ _ c.kind_at.ensures c.if-kind_at-eq-ELLIPSIS.false (next _ (c.in_ok-e.ensures.run t₂ h₂)
-        (λ t₃ h₃. nay! _ _ _ (sym (c.is_void_list.ensures.of _ t₃) ∙ c.if-is_void_list.false) (entered _ _ _ _ _ _ (next _ (c.in_ok-f.ensures.run t₃ h₃) (λ t₄ h₄. is+ _ _ c.kind_at-3.ensures c.if-kind_at-ne-COMMA.false (counted-on (tokens c.args.kinds.now c.args.numbers.now) (model c.args.m) (levels (tokens c.args.kinds.now c.args.numbers.now) (model c.args.m) c.args.room) c.args.first c.loop-m.n (state (moved_to c.in-Done-r.f (c.in-Done-r.f.at + 1)) t₄) f (starts-at c.moved-here.ensures h₄ (lt_of_lt_of_le (fewer _ _ c.moved-here.ensures (entry-on (typed-on c.in_ok-e.ensures c.loop-m.invariant.reading.held refl (parameter-on _ _ _ (levels-on _ _ _))) (stays c.in_ok-f.ensures (held_next c.in_ok-e.ensures c.loop-m.invariant.reading.held) refl (added_parameter-stays _ _ _ _))) (there c.kind_at-3.ensures c.if-kind_at-ne-COMMA.false)) l)))))))));
+        (λ t₃ h₃. nay! _ _ _ (sym (c.is_void_list.ensures.of _ t₃) ∙ c.if-is_void_list.false) (entered _ _ _ _ _ _ (next _ (c.in_ok-f.ensures.run t₃ h₃) (λ t₄ h₄. is+ _ _ c.kind_at-in-loop-m.ensures c.if-kind_at-ne-COMMA.false (counted-on (tokens c.args.kinds.now c.args.numbers.now) (model c.args.m) (levels (tokens c.args.kinds.now c.args.numbers.now) (model c.args.m) c.args.room) c.args.first c.loop-m.n (state (moved_to c.in_ok-f.f (c.in_ok-f.f.at + 1)) t₄) f (starts-at c.moved-here.ensures h₄ (lt_of_lt_of_le (fewer _ _ c.moved-here.ensures (entry-on (typed-on c.in_ok-e.ensures c.loop-m.invariant.reading.held refl (parameter-on _ _ _ (levels-on _ _ _))) (stays c.in_ok-f.ensures (held_next c.in_ok-e.ensures c.loop-m.invariant.reading.held) refl (added_parameter-stays _ _ _ _))) (there c.kind_at-in-loop-m.ensures c.if-kind_at-ne-COMMA.false)) l)))))))));
   };
   passed = one_more c.moved-here.ensures c.loop-m.invariant.passed (entry-on (typed-on c.in_ok-e.ensures c.loop-m.invariant.reading.held refl (parameter-on _ _ _ (levels-on _ _ _))) (stays c.in_ok-f.ensures (held_next c.in_ok-e.ensures c.loop-m.invariant.reading.held) refl (added_parameter-stays _ _ _ _)));
-  few = one_fewer c.loop-m.invariant.passed (entry-on (typed-on c.in_ok-e.ensures c.loop-m.invariant.reading.held refl (parameter-on _ _ _ (levels-on _ _ _))) (stays c.in_ok-f.ensures (held_next c.in_ok-e.ensures c.loop-m.invariant.reading.held) refl (added_parameter-stays _ _ _ _))) (there c.kind_at-3.ensures c.if-kind_at-ne-COMMA.false);
+  few = one_fewer c.loop-m.invariant.passed (entry-on (typed-on c.in_ok-e.ensures c.loop-m.invariant.reading.held refl (parameter-on _ _ _ (levels-on _ _ _))) (stays c.in_ok-f.ensures (held_next c.in_ok-e.ensures c.loop-m.invariant.reading.held) refl (added_parameter-stays _ _ _ _))) (there c.kind_at-in-loop-m.ensures c.if-kind_at-ne-COMMA.false);
 }
 
 pub member-specifiers-requires : goal.member-specifiers-requires
@@ -384,7 +387,7 @@ member-returns-in_err-f t c = record {
 }
 
 pub member-returns-in_err-e : goal.member-returns-in_err-e
-member-returns-in_err-e t c = record { run = λ t₁ h. by (declaration-made _ _ _ _ _) (exit reply_alone _ (c.in_err-e.ensures.run t₁ h) c.from_residual-in_err-e.ensures.1 refl) }
+member-returns-in_err-e t c = record { run = λ t₁ h. by (declaration-made _ _ _ _ _) (exit reply_alone _ (c.in_err-e.ensures.run t₁ h) c.from_residual.ensures.1 refl) }
 
 pub member_list-loop-m-init : goal.member_list-loop-m-init
 member_list-loop-m-init t c = begin c.requires.held
@@ -469,7 +472,7 @@ pub parameter-returns-in_err-f : goal.parameter-returns-in_err-f
 parameter-returns-in_err-f t c = record { run = λ t₁ h. by (parameter-made _ _ _ _) (next _ (c.in_ok-e.ensures.run t₁ h) (λ t₂ h₂. exit (reply_by typed) _ (c.in_err-f.ensures.run t₂ h₂) c.from_residual-in_err-f.ensures.1 refl)) }
 
 pub parameter-returns-in_err-e : goal.parameter-returns-in_err-e
-parameter-returns-in_err-e t c = record { run = λ t₁ h. by (parameter-made _ _ _ _) (exit (reply_by typed) _ (c.in_err-e.ensures.run t₁ h) c.from_residual-in_err-e.ensures.1 refl) }
+parameter-returns-in_err-e t c = record { run = λ t₁ h. by (parameter-made _ _ _ _) (exit (reply_by typed) _ (c.in_err-e.ensures.run t₁ h) c.from_residual.ensures.1 refl) }
 
 pub parameters-overflow_cast-first : goal.parameters-overflow_cast-first
 parameters-overflow_cast-first t c = omega (arith, c.requires.held.room.parameters)
@@ -552,11 +555,11 @@ suffix-array_bound-requires t c = c.requires.held.room
 
 pub suffix-returns-in-Some : goal.suffix-returns-in-Some
 unfolding suffix_step
-suffix-returns-in-Some t c = record { run = λ t₁ h. eq- _ _ _ _ c.if-kind-eq-OPEN_PAREN.false (next _ ((c.in_ok-e.ensures.with _ _).run t₁ h) (λ t₂ h₂. got_as (array-kept (some _) c.bounded.ensures.kept) h₂)) }
+suffix-returns-in-Some t c = record { run = λ t₁ h. eq- _ _ _ _ c.if-kind-eq-OPEN_PAREN.false (next _ ((c.in_ok-e.ensures.with _ _).run t₁ h) (λ t₂ h₂. got_as (array-kept (some _) c.bounded.ensures.kept ∙ ap (λ o. array_step (option o)) (sym c.in-Some.is)) h₂)) }
 
 pub suffix-returns-in-None : goal.suffix-returns-in-None
 unfolding suffix_step
-suffix-returns-in-None t c = record { run = λ t₁ h. eq- _ _ _ _ c.if-kind-eq-OPEN_PAREN.false (next _ ((c.in_ok-e.ensures.with _ _).run t₁ h) (λ t₂ h₂. got_as (array-kept none c.unbounded.ensures.kept) h₂)) }
+suffix-returns-in-None t c = record { run = λ t₁ h. eq- _ _ _ _ c.if-kind-eq-OPEN_PAREN.false (next _ ((c.in_ok-e.ensures.with _ _).run t₁ h) (λ t₂ h₂. got_as (array-kept none c.unbounded.ensures.kept ∙ ap (λ o. array_step (option o)) (sym c.in-None.is)) h₂)) }
 
 pub suffix-returns-in_err-e : goal.suffix-returns-in_err-e
 unfolding suffix_step
@@ -569,13 +572,10 @@ pub suffixes-returns-then-kind-ne-OPEN_PAREN : goal.suffixes-returns-then-kind-n
 suffixes-returns-then-kind-ne-OPEN_PAREN t c = ended c.loop-m.invariant c.kind_at-kind.ensures c.if-kind-ne-OPEN_BRACKET.true c.if-kind-ne-OPEN_PAREN.true
 
 pub suffixes-overflow_add-at : goal.suffixes-overflow_add-at
-suffixes-overflow_add-at t c = omega (arith, c.requires.readable.few, suffix-there c.loop-m.invariant c.kind_at-kind.ensures (elim c.if-kind-ne-OPEN_BRACKET.branch [ suffixes-then-kind-ne-OPEN_BRACKET+else-kind-ne-OPEN_PAREN w ↦ inr w.if-kind-ne-OPEN_PAREN.false | suffixes-else-kind-ne-OPEN_BRACKET w ↦ inl w.if-kind-ne-OPEN_BRACKET.false ]))
+suffixes-overflow_add-at t c = omega (arith, c.requires.readable.few, suffix-there c.loop-m.invariant c.kind_at-kind.ensures (elim c.else-kind-ne-OPEN_BRACKET.branch [ suffixes-else-kind-ne-OPEN_BRACKET-via-then-kind-ne-OPEN_BRACKET+else-kind-ne-OPEN_PAREN w ↦ inr w.if-kind-ne-OPEN_PAREN.false | suffixes-else-kind-ne-OPEN_BRACKET-via-else-kind-ne-OPEN_BRACKET w ↦ inl w.if-kind-ne-OPEN_BRACKET.false ]))
 
 pub suffixes-returns-then-is_full : goal.suffixes-returns-then-is_full
-suffixes-returns-then-is_full t c = full c.loop-m.invariant c.kind_at-kind.ensures (elim c.if-kind-ne-OPEN_BRACKET.branch [ suffixes-then-kind-ne-OPEN_BRACKET+else-kind-ne-OPEN_PAREN w ↦ inr w.if-kind-ne-OPEN_PAREN.false | suffixes-else-kind-ne-OPEN_BRACKET w ↦ inl w.if-kind-ne-OPEN_BRACKET.false ]) c.is_full.ensures c.if-is_full.true
-
-pub suffixes-overflow_add-at-in-loop-m : goal.suffixes-overflow_add-at-in-loop-m
-suffixes-overflow_add-at-in-loop-m t c = omega (arith, c.requires.readable.few, suffix-there c.loop-m.invariant c.kind_at-kind.ensures (elim c.if-kind-ne-OPEN_BRACKET.branch [ suffixes-then-kind-ne-OPEN_BRACKET+else-kind-ne-OPEN_PAREN w ↦ inr w.if-kind-ne-OPEN_PAREN.false | suffixes-else-kind-ne-OPEN_BRACKET w ↦ inl w.if-kind-ne-OPEN_BRACKET.false ]))
+suffixes-returns-then-is_full t c = full c.loop-m.invariant c.kind_at-kind.ensures (elim c.else-kind-ne-OPEN_BRACKET.branch [ suffixes-else-kind-ne-OPEN_BRACKET-via-then-kind-ne-OPEN_BRACKET+else-kind-ne-OPEN_PAREN w ↦ inr w.if-kind-ne-OPEN_PAREN.false | suffixes-else-kind-ne-OPEN_BRACKET-via-else-kind-ne-OPEN_BRACKET w ↦ inl w.if-kind-ne-OPEN_BRACKET.false ]) c.is_full.ensures c.if-is_full.true
 
 pub suffixes-suffix-requires : goal.suffixes-suffix-requires
 suffixes-suffix-requires t c = (omega (arith, c.decreases), (held_at c.moved.ensures c.loop-m.invariant.held, c.requires.readable))
@@ -584,13 +584,13 @@ pub suffixes-push-t-requires : goal.suffixes-push-t-requires
 suffixes-push-t-requires t c = has_room _ c.is_full.ensures c.if-is_full.false
 
 pub suffixes-loop-m-smaller : goal.suffixes-loop-m-smaller
-suffixes-loop-m-smaller t c = suffixes-fewer c.loop-m.invariant c.kind_at-kind.ensures (elim c.if-kind-ne-OPEN_BRACKET.branch [ suffixes-then-kind-ne-OPEN_BRACKET+else-kind-ne-OPEN_PAREN w ↦ inr w.if-kind-ne-OPEN_PAREN.false | suffixes-else-kind-ne-OPEN_BRACKET w ↦ inl w.if-kind-ne-OPEN_BRACKET.false ]) c.is_full.ensures c.if-is_full.false c.moved.ensures c.in_ok-e.ensures
+suffixes-loop-m-smaller t c = suffixes-fewer c.loop-m.invariant c.kind_at-kind.ensures (elim c.else-kind-ne-OPEN_BRACKET.branch [ suffixes-else-kind-ne-OPEN_BRACKET-via-then-kind-ne-OPEN_BRACKET+else-kind-ne-OPEN_PAREN w ↦ inr w.if-kind-ne-OPEN_PAREN.false | suffixes-else-kind-ne-OPEN_BRACKET-via-else-kind-ne-OPEN_BRACKET w ↦ inl w.if-kind-ne-OPEN_BRACKET.false ]) c.is_full.ensures c.if-is_full.false c.moved.ensures _ c.in_ok-e.ensures
 
 pub suffixes-loop-m-preserved : goal.suffixes-loop-m-preserved
-suffixes-loop-m-preserved t c = again c.loop-m.invariant c.kind_at-kind.ensures (elim c.if-kind-ne-OPEN_BRACKET.branch [ suffixes-then-kind-ne-OPEN_BRACKET+else-kind-ne-OPEN_PAREN w ↦ inr w.if-kind-ne-OPEN_PAREN.false | suffixes-else-kind-ne-OPEN_BRACKET w ↦ inl w.if-kind-ne-OPEN_BRACKET.false ]) c.is_full.ensures c.if-is_full.false c.moved.ensures c.in_ok-e.ensures c.push-t.ensures
+suffixes-loop-m-preserved t c = again c.loop-m.invariant c.kind_at-kind.ensures (elim c.else-kind-ne-OPEN_BRACKET.branch [ suffixes-else-kind-ne-OPEN_BRACKET-via-then-kind-ne-OPEN_BRACKET+else-kind-ne-OPEN_PAREN w ↦ inr w.if-kind-ne-OPEN_PAREN.false | suffixes-else-kind-ne-OPEN_BRACKET-via-else-kind-ne-OPEN_BRACKET w ↦ inl w.if-kind-ne-OPEN_BRACKET.false ]) c.is_full.ensures c.if-is_full.false c.moved.ensures _ c.in_ok-e.ensures c.push-t.ensures
 
 pub suffixes-returns-in_err-e : goal.suffixes-returns-in_err-e
-suffixes-returns-in_err-e t c = suffix-stop c.loop-m.invariant c.kind_at-kind.ensures (elim c.if-kind-ne-OPEN_BRACKET.branch [ suffixes-then-kind-ne-OPEN_BRACKET+else-kind-ne-OPEN_PAREN w ↦ inr w.if-kind-ne-OPEN_PAREN.false | suffixes-else-kind-ne-OPEN_BRACKET w ↦ inl w.if-kind-ne-OPEN_BRACKET.false ]) c.is_full.ensures c.if-is_full.false c.moved.ensures c.in_err-e.ensures c.from_residual.ensures.1
+suffixes-returns-in_err-e t c = suffix-stop c.loop-m.invariant c.kind_at-kind.ensures (elim c.else-kind-ne-OPEN_BRACKET.branch [ suffixes-else-kind-ne-OPEN_BRACKET-via-then-kind-ne-OPEN_BRACKET+else-kind-ne-OPEN_PAREN w ↦ inr w.if-kind-ne-OPEN_PAREN.false | suffixes-else-kind-ne-OPEN_BRACKET-via-else-kind-ne-OPEN_BRACKET w ↦ inl w.if-kind-ne-OPEN_BRACKET.false ]) c.is_full.ensures c.if-is_full.false c.moved.ensures _ c.in_err-e.ensures c.from_residual.ensures.1
 
 pub tag_type-enumeration-requires : goal.tag_type-enumeration-requires
 tag_type-enumeration-requires t c = record { held = c.requires.held; names_fit = c.requires.readable.names }
@@ -620,7 +620,7 @@ type_row-returns t c = record { run = λ t₁ h. words-by_name _ _ _ _ c.kind_at
 
 pub with_tag-returns-in_err-e : goal.with_tag-returns-in_err-e
 unfolding tagged_composite
-with_tag-returns-in_err-e t c = record { run = λ t₁ h. exit reply _ (c.in_err-e.ensures.run t₁ h) c.from_residual-in_err-e.ensures.1 refl }
+with_tag-returns-in_err-e t c = record { run = λ t₁ h. exit reply _ (c.in_err-e.ensures.run t₁ h) c.from_residual.ensures.1 refl }
 
 pub with_tag-returns-then-kind_at-ne-OPEN_BRACE : goal.with_tag-returns-then-kind_at-ne-OPEN_BRACE
 unfolding tagged_composite
@@ -635,9 +635,9 @@ with_tag-body-requires t c = (omega (arith, c.decreases), (held_at c.moved.ensur
 pub with_tag-define_body-requires : goal.with_tag-define_body-requires
 with_tag-define_body-requires t c = held_next c.in_ok-f.ensures (held_at c.moved.ensures (held_next c.in_ok-e.ensures c.requires.held))
 
-pub with_tag-returns-2 : goal.with_tag-returns-2
+pub with_tag-returns : goal.with_tag-returns
 unfolding tagged_composite define_body
-with_tag-returns-2 t c = record {
+with_tag-returns t c = record {
   run = λ t₁ h. next _ (c.in_ok-e.ensures.run t₁ h) (λ t₂ h₂. is+ _ _ c.kind_at.ensures c.if-kind_at-ne-OPEN_BRACE.false
       (next _ (step-on c.moved.ensures c.in_ok-f.ensures h₂) (λ t₃ h₃. got! (c.define_body.ensures.run t₃ h₃))));
 }

@@ -6,7 +6,6 @@ use Rattle.table.proofs.Steps.{there, is+, is-}
 use Rattle.parser.specs.Pieces.{after_type}
 use mathlib.Core.Path.{refl, ap}
 use Rattle.table.proofs.Shown.{call, refuse, held_on}
-use Rattle.table.specs.Reply.{move}
 use Rattle.parser.proofs.Composites.{from_first}
 use mathlib.Core.Path.{refl}
 use Rattle.table.proofs.Branch.{by, yes!, nay! }
@@ -32,7 +31,7 @@ use Rattle.parser.specs.Pieces.{declarators_in}
 use Rattle.parser.proofs.Goes.{moves-on}
 use Rattle.parser.proofs.Lists.{Reading, begin, fewer, lone}
 use Rattle.parser.proofs.Declaring.{starts-empty, typed-stop, declared_held, declared_few, typed-refused, typed-done}
-use Rattle.parser.proofs.Plain.{a-name as plain-name, name-there, is_so, has_levels, typed-plain}
+use Rattle.parser.proofs.Plain.{a-name as plain-name, name-there, typed-plain}
 use Rattle.table.proofs.Shown.{no!, held_at}
 use Rattle.table.proofs.Steps.{there}
 use mathlib.Core.Bool.{not}
@@ -56,7 +55,6 @@ use Rattle.table.proofs.Shown.{no!, call, refuse, held_on}
 use Rattle.definition.specs.Table.{storage_number}
 use Rattle.definition_laws.proofs.Progress.{specifiers-on, levels-on}
 use Rattle.definition_laws.proofs.TableProgress.{base_type-stays}
-use Rattle.parser.specs.Answers.{specified}
 use Rattle.parser.proofs.Made.{declaration-made}
 use Rattle.parser.proofs.Goes.{on, stays}
 use Rattle.parser.proofs.Composites.{enough as member-enough}
@@ -82,7 +80,6 @@ use Rattle.table.proofs.Shown.{call, refuse}
 use Rattle.parser.specs.Pieces.{suffix_step}
 use Rattle.declarator_steps.proofs.Views.{array-kept}
 use Rattle.parser.proofs.Declaring.{got_as}
-use Rattle.bounds_widths.specs.Parts.{bound}
 use Rattle.table.proofs.Shown.{held, held_at}
 use mathlib.Core.Logic.{⊎_elim, inl, inr}
 use Rattle.declarator_heads.proofs.Rounds.{has_room}
