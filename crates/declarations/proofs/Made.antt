@@ -1,6 +1,8 @@
 -- The definition's readers are made of the pieces that the code has functions for; and declarations end. Assumes nothing.
 use mathlib.Core.Path.{◌≡◌, refl, ap, ◌∙◌}
-use mathlib.Core.Bool.{true, false}
+use mathlib.Core.Bool.{true, false, ◌||◌}
+use mathlib.Core.Logic.{◌⊎◌, inl, inr}
+use Rattle.std.proofs.lemmas.Bool.{ne_eqb}
 use mathlib.Core.List.{List}
 use Prim.Native.Nat.{ℕ, suc, ◌-◌, ◌≤◌, ◌<◌}
 use native.Mathlib.Omega.{arith}
@@ -34,6 +36,14 @@ use Rattle.definition_laws.proofs.Every.{got!, no!, bool!, test! }
 use Rattle.parser.specs.Pieces.{typed_from}
 use Rattle.parser.proofs.Made.{joined}
 use Rattle.declarations.specs.Pieces.{after_base, alone_from}
+
+-- a declaration's type stands alone: by its kind, a semicolon's or the end's
+pub ends_type : {k : ℕ} → (k ≡ semicolon) ⊎ (k ≡ end) → (eqb k semicolon || eqb k end) ≡ true
+ends_type (inl e) = rw e refl
+ends_type (inr e) = rw e refl
+
+pub goes_on : {k : ℕ} → (k ≡ semicolon → ⊥) → (k ≡ end → ⊥) → (eqb k semicolon || eqb k end) ≡ false
+goes_on {k} p q = rw (ne_eqb k semicolon p, ne_eqb k end q) refl
 
 -- after an initialiser that was passed over
 pub initialised : {Q : Answer State → Type 0} (ts : Tokens) (s s' : State) (c : Storage) (w b at : ℕ) → initialiser ts s ≡ s'

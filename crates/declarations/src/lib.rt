@@ -1,4 +1,4 @@
-#![tactic(auto)]
+#![tactic(auto, using(table::proofs::Shown::held_next))]
 // Declarations: one alone, or all of a header. What the tables hold before is kept: a new table has none.
 ghost use Rattle.std.specs.Prelude.{suc};
 ghost use Rattle.definition.specs.Token.{left};

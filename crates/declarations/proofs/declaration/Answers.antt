@@ -6,7 +6,6 @@ use Rattle.table.proofs.Branch.{by}
 use Rattle.table.proofs.Shown.{call, refuse, held_on, next, exit, held_next}
 use Rattle.definition_laws.proofs.Progress.{specifiers-on, levels-on}
 use Rattle.definition_laws.proofs.TableProgress.{base_type-stays}
-use Rattle.parser.specs.Answers.{specified}
 use Rattle.parser.proofs.Goes.{on, stays}
 use Rattle.parser.proofs.Composites.{enough}
 use Rattle.declarations.proofs.Made.{declaration-made}
@@ -21,14 +20,8 @@ base_type-requires c = held_next c.in_ok-e.ensures c.requires.held
 pub after_base-requires : goal.after_base-requires
 after_base-requires c = record { held = held_next c.in_ok-f.ensures (held_next c.in_ok-e.ensures c.requires.held); readable = c.requires.readable }
 
-pub shape_of-w-in-Done-r : goal.shape_of-w-in-Done-r
-shape_of-w-in-Done-r c = c.w-in-Done-r-1.given ∙ (c.w-in-Done-1.given ∙ c.w-1.given)
-
-pub shape_of-d-in-Done-r : goal.shape_of-d-in-Done-r
-shape_of-d-in-Done-r c = c.d-in-Done-r-1.given ∙ (c.d-in-Done-1.given ∙ c.d-1.given)
-
-pub returns-in-Done-r : goal.returns-in-Done-r
-returns-in-Done-r c = let a = held_next c.in_ok-e.ensures c.requires.held in
+pub returns : goal.returns
+returns c = let a = held_next c.in_ok-e.ensures c.requires.held in
     let far = enough (tokens c.args.kinds.now c.args.numbers.now) (on c.in_ok-e.ensures c.requires.held refl (specifiers-on _ _ _ (levels-on _ _ _))) (stays c.in_ok-f.ensures a refl (λ s. base_type-stays s _ _ _)) in
     record { run = λ t h. by (declaration-made _ _ _) (next _ (c.in_ok-e.ensures.run t h) (λ t₁ h₁. next _ (c.in_ok-f.ensures.run t₁ h₁) (λ t₂ h₂. (c.after_base.ensures.rounds _ far).run t₂ h₂))) }
 

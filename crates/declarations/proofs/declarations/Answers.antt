@@ -17,15 +17,6 @@ use Rattle.declarations.proofs.declarations.Goals as goal
 pub loop-m-init : goal.loop-m-init
 loop-m-init c = begin c.requires.held
 
-pub shape_of-w-then-kind-eq-END : goal.shape_of-w-then-kind-eq-END
-shape_of-w-then-kind-eq-END c = c.loop-m.invariant.held.long.words ∙ sym c.requires.held.long.words
-
-pub shape_of-d-then-kind-eq-END : goal.shape_of-d-then-kind-eq-END
-shape_of-d-then-kind-eq-END c = c.loop-m.invariant.held.long.wides ∙ sym c.requires.held.long.wides
-
-pub shape_of-v-then-kind-eq-END : goal.shape_of-v-then-kind-eq-END
-shape_of-v-then-kind-eq-END c = c.loop-m.invariant.held.long.signeds ∙ sym c.requires.held.long.signeds
-
 pub returns-then-kind-eq-END : goal.returns-then-kind-eq-END
 unfolding declarations_from
 returns-then-kind-eq-END c = record { run = λ t h. turn (c.loop-m.invariant.going _ (enough _) t h) (λ t₁ f l h₁. is+ _ _ c.kind_at-kind.ensures c.if-kind-eq-END.true (got! h₁)) }
@@ -47,27 +38,9 @@ loop-m-preserved-then-kind-eq-SEMICOLON c = record {
 pub declaration-requires : goal.declaration-requires
 declaration-requires c = record { held = c.loop-m.invariant.held; readable = c.requires.readable }
 
-pub shape_of-w-in_err-e : goal.shape_of-w-in_err-e
-shape_of-w-in_err-e c = c.w-1.given ∙ (c.loop-m.invariant.held.long.words ∙ sym c.requires.held.long.words)
-
-pub shape_of-d-in_err-e : goal.shape_of-d-in_err-e
-shape_of-d-in_err-e c = c.d-1.given ∙ (c.loop-m.invariant.held.long.wides ∙ sym c.requires.held.long.wides)
-
-pub shape_of-v-in_err-e : goal.shape_of-v-in_err-e
-shape_of-v-in_err-e c = c.v-1.given ∙ (c.loop-m.invariant.held.long.signeds ∙ sym c.requires.held.long.signeds)
-
 pub returns-in_err-e : goal.returns-in_err-e
 unfolding declarations_from
 returns-in_err-e c = record { run = λ t h. turn (c.loop-m.invariant.going _ (enough _) t h) (λ t₁ f l h₁. is- _ _ c.kind_at-kind.ensures c.if-kind-eq-END.false (is- _ _ c.kind_at-kind.ensures c.if-kind-eq-SEMICOLON.false (exit reply_alone _ (c.in_err-e.ensures.run t₁ h₁) c.from_residual.ensures.1 refl))) }
-
-pub shape_of-w-in_default-s : goal.shape_of-w-in_default-s
-shape_of-w-in_default-s c = c.w-1.given ∙ (c.loop-m.invariant.held.long.words ∙ sym c.requires.held.long.words)
-
-pub shape_of-d-in_default-s : goal.shape_of-d-in_default-s
-shape_of-d-in_default-s c = c.d-1.given ∙ (c.loop-m.invariant.held.long.wides ∙ sym c.requires.held.long.wides)
-
-pub shape_of-v-in_default-s : goal.shape_of-v-in_default-s
-shape_of-v-in_default-s c = c.v-1.given ∙ (c.loop-m.invariant.held.long.signeds ∙ sym c.requires.held.long.signeds)
 
 pub returns-in_err-f : goal.returns-in_err-f
 unfolding declarations_from

@@ -3,7 +3,6 @@ use native.Mathlib.Omega.{arith}
 use native.Mathlib.Nat.{lt_of_lt_of_le}
 use mathlib.Core.Path.{sym, ap, ◌∙◌}
 use Rattle.constants.specs.Reading.{tokens}
-use Rattle.table.specs.Reply.{move}
 use Rattle.table.proofs.Rounds.{starts, starts-at, turn}
 use Rattle.table.proofs.Shown.{got!, call, fail, held_at, held_on}
 use Rattle.table.proofs.Steps.{there, is+, is-}

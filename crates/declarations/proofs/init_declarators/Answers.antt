@@ -23,27 +23,9 @@ loop-e-init c = begin c.requires.held
 pub init_declarator-requires : goal.init_declarator-requires
 init_declarator-requires c = record { held = c.loop-e.invariant.held; readable = c.requires.readable }
 
-pub shape_of-w-in_err-e : goal.shape_of-w-in_err-e
-shape_of-w-in_err-e c = c.w-1.given ∙ (c.loop-e.invariant.held.long.words ∙ sym c.requires.held.long.words)
-
-pub shape_of-d-in_err-e : goal.shape_of-d-in_err-e
-shape_of-d-in_err-e c = c.d-1.given ∙ (c.loop-e.invariant.held.long.wides ∙ sym c.requires.held.long.wides)
-
-pub shape_of-v-in_err-e : goal.shape_of-v-in_err-e
-shape_of-v-in_err-e c = c.v-1.given ∙ (c.loop-e.invariant.held.long.signeds ∙ sym c.requires.held.long.signeds)
-
 pub returns-in_err-e : goal.returns-in_err-e
 unfolding init_declarators
 returns-in_err-e c = record { rounds = λ n p. record { run = λ t₁ h. turn (c.loop-e.invariant.going n p t₁ h) (λ t₂ f l h₂. exit reply_alone _ (c.in_err-e.ensures.run t₂ h₂) c.from_residual.ensures.1 refl) } }
-
-pub shape_of-w-then-kind_at-ne-COMMA : goal.shape_of-w-then-kind_at-ne-COMMA
-shape_of-w-then-kind_at-ne-COMMA c = c.w-1.given ∙ (c.loop-e.invariant.held.long.words ∙ sym c.requires.held.long.words)
-
-pub shape_of-d-then-kind_at-ne-COMMA : goal.shape_of-d-then-kind_at-ne-COMMA
-shape_of-d-then-kind_at-ne-COMMA c = c.d-1.given ∙ (c.loop-e.invariant.held.long.wides ∙ sym c.requires.held.long.wides)
-
-pub shape_of-v-then-kind_at-ne-COMMA : goal.shape_of-v-then-kind_at-ne-COMMA
-shape_of-v-then-kind_at-ne-COMMA c = c.v-1.given ∙ (c.loop-e.invariant.held.long.signeds ∙ sym c.requires.held.long.signeds)
 
 pub returns-then-kind_at-ne-COMMA : goal.returns-then-kind_at-ne-COMMA
 unfolding init_declarators
