@@ -43,6 +43,13 @@ module _ (ks ps ns : List ℕ) (end at k : ℕ) (p : Peek ks at k) where
   unfolding here
   here-token e i q = q.is ∙ sym (eq_no (get_or ks at 0) 0 end (get_or ps at 0) (λ z. e (p.is ∙ z)))
 
+-- a refusal's token as its offset, from what was said of each refusal
+pub in_text_by : (x : Lexed) (r₀ r : Result Cursor Refusal) → MatchResult r₀ (λ c. r ≡ Ok c) (λ y. IsErrAnd r (λ z. z ≡ record { reason = y.reason; at = here x y.at })) → answer r ≡ in_text x (answer r₀)
+unfolding in_text
+in_text_by x (Ok c) r q = rw q
+in_text_by x (Err y) (Ok c) q = absurd q
+in_text_by x (Err y) (Err z) q = rw q
+
 -- ---- the two readers
 
 module _ (ks ps ns : List ℕ) (end : ℕ) (m : Model) where
@@ -81,41 +88,29 @@ module _ (ks ps ns : List ℕ) (end : ℕ) (m : Model) where
   unfolding meant.parse one_declaration lone_declaration in_text ◌>>=◌
   one_no n i e = rw e
 
-  -- a refusal at a token, with its offset in the place of the token's
-  abbrev pub placed : Refusal → Refusal
-  placed y = record { reason = y.reason; at = here x y.at }
-
-  -- what the parser answered, with its refusal placed
-  abbrev pub Placed : Result Cursor Refusal → Result Cursor Refusal → Type 0
-  Placed r₀ r = MatchResult r₀ (λ c. r ≡ Ok c) (λ y. IsErrAnd r (λ z. z ≡ placed y))
-
   module _ {w d w' d' : List ℕ} {v v' : List ℤ} (e : Encodes new_table first_cursor w d v) where
-    header_done : (c : Cursor) → Moves whole_from first_cursor w d v (ok c none) w' d' v' → Parses (meant.parse meant.wholeHeader x m) (got c) w' d' v'
-    header_done c g = let h = went (g.run new_table e) refl in done h.table c (header_got _ h.says) refl h.holds
-
-    header_refused : (n i : ℕ) → Moves whole_from first_cursor w d v (bad n i) w' d' v' → Parses (meant.parse meant.wholeHeader x m) (refused n (here x i)) w' d' v'
-    header_refused n i g = let f = (g.run new_table e).ends in stop n (here x i) (header_no n i (said f refl)) refl (leaves f refl)
-
-    pub header : (r₀ r : Result Cursor Refusal) → Placed r₀ r → Moves whole_from first_cursor w d v (reply_alone r₀) w' d' v' → Parses (meant.parse meant.wholeHeader x m) (answer r) w' d' v'
-    header (Ok c) r q g = rw q (header_done c g)
-    header (Err y) (Ok c) q g = absurd q
-    header (Err y) (Err z) q g = rw q (header_refused (number_of y.reason) y.at g)
+    pub header : (r₀ r : Result Cursor Refusal) → answer r ≡ in_text x (answer r₀) → Moves whole_from first_cursor w d v (reply_alone r₀) w' d' v' → Parses (meant.parse meant.wholeHeader x m) (answer r) w' d' v'
+    unfolding in_text
+    header (Ok c) r q g = let h = went (g.run new_table e) refl in done h.table c (header_got _ h.says) q h.holds
+    header (Err y) r q g = let f = (g.run new_table e).ends in stop (number_of y.reason) (here x y.at) (header_no _ _ (said f refl)) q (leaves f refl)
 
     -- one declaration: the counts, once it was read
-    lone : (r₀ : Result Cursor Refusal) (c : Cursor) → Placed r₀ (Ok c) → Moves lone_from first_cursor w d v (reply_alone r₀) w' d' v' → Moves lone_from first_cursor w d v (ok c none) w' d' v'
+    lone : (r₀ : Result Cursor Refusal) (c : Cursor) → got c ≡ in_text x (answer r₀) → Moves lone_from first_cursor w d v (reply_alone r₀) w' d' v' → Moves lone_from first_cursor w d v (ok c none) w' d' v'
+    unfolding in_text
     lone (Ok c₀) c q g = let i : c₀ ≡ c = cc in rw i at g
-    lone (Err y) c q g = absurd q
+    lone (Err y) c q g = let o : ◌≡◌ {A = ℕ} 0 1 = cc in absurd (omega arith)
 
     module _ (r₀ : Result Cursor Refusal) (g : Moves lone_from first_cursor w d v (reply_alone r₀) w' d' v') where
-      pub one-done : (c : Cursor) → Placed r₀ (Ok c) → c.declarations ≤ 1 → Parses (meant.parse meant.singleDeclaration x m) (got c) w' d' v'
+      pub one-done : (c : Cursor) → got c ≡ in_text x (answer r₀) → c.declarations ≤ 1 → Parses (meant.parse meant.singleDeclaration x m) (got c) w' d' v'
       one-done c q p = let h = went ((lone r₀ c q g).run new_table e) refl in done h.table c (one-got _ h.says (omega (arith, h.holds.counts.declarations))) refl h.holds
 
-      pub one_too_many : (c : Cursor) → Placed r₀ (Ok c) → 1 < c.declarations → Parses (meant.parse meant.singleDeclaration x m) (refused 24 0) w' d' v'
+      pub one_too_many : (c : Cursor) → got c ≡ in_text x (answer r₀) → 1 < c.declarations → Parses (meant.parse meant.singleDeclaration x m) (refused 24 0) w' d' v'
       one_too_many c q p = let h = went ((lone r₀ c q g).run new_table e) refl in stop 24 0 (one-many _ h.says (omega (arith, h.holds.counts.declarations))) refl (left h.holds)
 
-    pub one-refused : (r₀ : Result Cursor Refusal) (z : Refusal) → Placed r₀ (Err z) → Moves lone_from first_cursor w d v (reply_alone r₀) w' d' v' → Parses (meant.parse meant.singleDeclaration x m) (answer (Err z)) w' d' v'
+    pub one-refused : (r₀ : Result Cursor Refusal) (z : Refusal) → answer (Err z) ≡ in_text x (answer r₀) → Moves lone_from first_cursor w d v (reply_alone r₀) w' d' v' → Parses (meant.parse meant.singleDeclaration x m) (answer (Err z)) w' d' v'
+    unfolding in_text
     one-refused (Ok c) z q g = let o : ◌≡◌ {A = ℕ} 0 1 = cc in absurd (omega arith)
-    one-refused (Err y) z q g = let f = (g.run new_table e).ends in rw q (stop (number_of y.reason) (here x y.at) (one_no _ _ (said f refl)) refl (leaves f refl))
+    one-refused (Err y) z q g = let f = (g.run new_table e).ends in stop (number_of y.reason) (here x y.at) (one_no _ _ (said f refl)) q (leaves f refl)
 
 -- ---- what was parsed, with its names
 

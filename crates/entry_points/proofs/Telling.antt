@@ -198,12 +198,12 @@ abbrev pub concluded : Bytes → Answer Counts → Told
 concluded text (got c) = Accepted c
 concluded text (refused n p) = rejected_at text n p
 
--- its refusal is told with its line and column
-pub concludes : (text : Bytes) (r : Result Counts Refusal) (o : Result Counts Rejection) → MatchResult r (λ c. o ≡ Ok c) (λ e. IsErrAnd o (λ z. told (Err z) ≡ rejected_at text (number_of e.reason) e.at))
-    → told o ≡ concluded text (answer r)
-concludes text (Ok c) o q = rw q
-concludes text (Err e) (Ok c) q = absurd q
-concludes text (Err e) (Err z) q = q
+-- its refusal is told with its line and column, from what a closure says of each
+pub concludes : {P : Refusal → Rejection → Type 0} (text : Bytes) (r : Result Counts Refusal) (o : Result Counts Rejection) → MatchResult r (λ c. o ≡ Ok c) (λ e. IsErrAnd o (λ z. P e z))
+    → ((e : Refusal) (z : Rejection) → P e z → told (Err z) ≡ rejected_at text (number_of e.reason) e.at) → told o ≡ concluded text (answer r)
+concludes text (Ok c) o q f = rw q
+concludes text (Err e) (Ok c) q f = absurd q
+concludes text (Err e) (Err z) q f = f e z q
 
 pub reject_is : (text : Bytes) (n at : ℕ) (s : Spot) → place s ≡ place_of text at → Rejected n at s.line s.column ≡ rejected_at text n at
 reject_is text n at s e = ap (λ (p : Place). Rejected n at p.line p.column) e

@@ -3,6 +3,7 @@
 ghost use Rattle.std.specs.Prelude.{◌≡◌, ◌+◌, ◌*◌, ◌≤◌, length, Err};
 ghost use Rattle.definition.specs.Limit.{max_text};
 ghost use Rattle.definition.specs.Token.{here};
+ghost use Rattle.definition.specs.Reader.{in_text};
 ghost use Rattle.definition.specs.Entry.{parse, read_with, wholeHeader, singleDeclaration};
 ghost use Rattle.definition.specs.Table.{new_table};
 ghost use Rattle.model.specs.Meaning.{model};
@@ -102,20 +103,21 @@ fn first_cursor() -> Cursor
     }
 }
 
-// A refusal at a token, at its offset in the text.
+// What was read of tokens; a refusal, at its token's offset in the text.
+#[tactic(auto, using(crate::proofs::Parsing::in_text_by))]
 fn in_text(
     kinds: &[u32],
     places: &[u32],
     numbers: &[u64],
     end: usize,
-    e: Refusal,
-) -> Refusal
-    ensures { result ≡ record { reason = e.reason; at = here (lexed kinds.now places.now numbers.now end) e.at } }
+    read: Result<Cursor, Refusal>,
+) -> Result<Cursor, Refusal>
+    ensures { answer result ≡ in_text (lexed kinds.now places.now numbers.now end) (answer read) }
 {
-    Refusal {
+    read.map_err(|e| Refusal {
+        reason: e.reason,
         at: offset_of(kinds, places, numbers, end, e.at),
-        ..e
-    }
+    })
 }
 
 // A whole header; a refusal names an offset.
@@ -133,8 +135,8 @@ fn parse_header(
     requires encodes { Encodes new_table first_cursor w.old d.old v.old }
     ensures { Parses (parse (entry_of Entry.WholeHeader) (lexed kinds.now places.now numbers.now end) (model m)) (answer result) w.new d.new v.new }
 {
-    declarations(kinds, numbers, w, d, v, first_cursor(), m)
-        .map_err(|e| in_text(kinds, places, numbers, end, e))
+    let read = declarations(kinds, numbers, w, d, v, first_cursor(), m);
+    in_text(kinds, places, numbers, end, read)
 }
 
 // One declaration, of one name at most.
@@ -152,8 +154,8 @@ fn parse_declaration(
     requires encodes { Encodes new_table first_cursor w.old d.old v.old }
     ensures { Parses (parse (entry_of Entry.SingleDeclaration) (lexed kinds.now places.now numbers.now end) (model m)) (answer result) w.new d.new v.new }
 {
-    let c = lone_declaration(kinds, numbers, w, d, v, first_cursor(), m)
-        .map_err(|e| in_text(kinds, places, numbers, end, e))?;
+    let read = lone_declaration(kinds, numbers, w, d, v, first_cursor(), m);
+    let c = in_text(kinds, places, numbers, end, read)?;
     if c.declarations <= 1 {
         return Ok(c);
     }

@@ -7,31 +7,31 @@ use Rattle.entry_points.proofs.Telling.{asks_own, enough, front-fresh, tells_too
 use Rattle.entry_points.proofs.read.Goals as goal
 
 pub slice_bounds-read_asked-end : goal.slice_bounds-read_asked-end
-slice_bounds-read_asked-end c = (enough c.args.w.now c.args.d.now c.args.v.now (sym c.long_enough.ensures ∙ c.if-long_enough.true)).words
+slice_bounds-read_asked-end c = (enough c.args.w.now c.args.d.now c.args.v.now (sym c.if-not-long_enough.ensures)).words
 
-pub slice_bounds-read_asked-end-then-long_enough : goal.slice_bounds-read_asked-end-then-long_enough
-slice_bounds-read_asked-end-then-long_enough c = sym (length-take-le words_length c.args.w.now (enough c.args.w.now c.args.d.now c.args.v.now (sym c.long_enough.ensures ∙ c.if-long_enough.true)).words)
+pub slice_bounds-read_asked-end-2 : goal.slice_bounds-read_asked-end-2
+slice_bounds-read_asked-end-2 c = sym (length-take-le words_length c.args.w.now (enough c.args.w.now c.args.d.now c.args.v.now (sym c.if-not-long_enough.ensures)).words)
 
-pub slice_bounds-read_asked-end-then-long_enough-2 : goal.slice_bounds-read_asked-end-then-long_enough-2
-slice_bounds-read_asked-end-then-long_enough-2 c = (enough c.args.w.now c.args.d.now c.args.v.now (sym c.long_enough.ensures ∙ c.if-long_enough.true)).wides
+pub slice_bounds-read_asked-end-3 : goal.slice_bounds-read_asked-end-3
+slice_bounds-read_asked-end-3 c = (enough c.args.w.now c.args.d.now c.args.v.now (sym c.if-not-long_enough.ensures)).wides
 
-pub slice_bounds-read_asked-end-then-long_enough-3 : goal.slice_bounds-read_asked-end-then-long_enough-3
-slice_bounds-read_asked-end-then-long_enough-3 c = sym (length-take-le wides_length c.args.d.now (enough c.args.w.now c.args.d.now c.args.v.now (sym c.long_enough.ensures ∙ c.if-long_enough.true)).wides)
+pub slice_bounds-read_asked-end-4 : goal.slice_bounds-read_asked-end-4
+slice_bounds-read_asked-end-4 c = sym (length-take-le wides_length c.args.d.now (enough c.args.w.now c.args.d.now c.args.v.now (sym c.if-not-long_enough.ensures)).wides)
 
-pub slice_bounds-read_asked-end-then-long_enough-4 : goal.slice_bounds-read_asked-end-then-long_enough-4
-slice_bounds-read_asked-end-then-long_enough-4 c = (enough c.args.w.now c.args.d.now c.args.v.now (sym c.long_enough.ensures ∙ c.if-long_enough.true)).signeds
+pub slice_bounds-read_asked-end-5 : goal.slice_bounds-read_asked-end-5
+slice_bounds-read_asked-end-5 c = (enough c.args.w.now c.args.d.now c.args.v.now (sym c.if-not-long_enough.ensures)).signeds
 
-pub slice_bounds-read_asked-end-then-long_enough-5 : goal.slice_bounds-read_asked-end-then-long_enough-5
-slice_bounds-read_asked-end-then-long_enough-5 c = sym (length-take-le signeds_length c.args.v.now (enough c.args.w.now c.args.d.now c.args.v.now (sym c.long_enough.ensures ∙ c.if-long_enough.true)).signeds)
+pub slice_bounds-read_asked-end-6 : goal.slice_bounds-read_asked-end-6
+slice_bounds-read_asked-end-6 c = sym (length-take-le signeds_length c.args.v.now (enough c.args.w.now c.args.d.now c.args.v.now (sym c.if-not-long_enough.ensures)).signeds)
 
 pub read_asked-r-requires : goal.read_asked-r-requires
-read_asked-r-requires c = record { asked = asks_own _; encodes = front-fresh _ _ _ c.requires (enough c.args.w.now c.args.d.now c.args.v.now (sym c.long_enough.ensures ∙ c.if-long_enough.true)) }
+read_asked-r-requires c = record { asked = asks_own _; encodes = front-fresh _ _ _ c.requires (enough c.args.w.now c.args.d.now c.args.v.now (sym c.if-not-long_enough.ensures)) }
 
-pub returns-then-long_enough : goal.returns-then-long_enough
-returns-then-long_enough c = answer-known _ _ _ _ _ _ _ _ (ap model_found (sym c.in-Some.is) ∙ c.numbered-found.ensures) (tells_concluded _ _ _ _ _ _ (enough _ _ _ (sym c.long_enough.ensures ∙ c.if-long_enough.true)) c.read_asked-r.ensures _ (concludes _ _ _ c.map_err.ensures))
+pub returns : goal.returns
+returns c = answer-known _ _ _ _ _ _ _ _ c.in-Some.ensures (tells_concluded _ _ _ _ _ _ (enough _ _ _ (sym c.if-not-long_enough.ensures)) c.read_asked-r.ensures _ (concludes _ _ _ c.map_err.ensures.cases (λ e z k. search rules)))
 
-pub returns-else-long_enough : goal.returns-else-long_enough
-returns-else-long_enough c = answer-known _ _ _ _ _ _ _ _ (ap model_found (sym c.in-Some.is) ∙ c.numbered-found.ensures) (tells_too_short _ _ _ _ _ _ _ (sym c.long_enough.ensures ∙ c.if-long_enough.false) c.reject.ensures)
+pub returns-then-not-long_enough : goal.returns-then-not-long_enough
+returns-then-not-long_enough c = answer-known _ _ _ _ _ _ _ _ c.in-Some.ensures (tells_too_short _ _ _ _ _ _ _ (sym c.if-not-long_enough.ensures) c.reject-then-not-long_enough.ensures)
 
-pub returns-in-None : goal.returns-in-None
-returns-in-None c = answer-unknown _ _ _ _ _ _ _ (ap model_found (sym c.in-None.is) ∙ c.numbered-found.ensures) c.reject-in-None.ensures
+pub returns-in_default : goal.returns-in_default
+returns-in_default c = answer-unknown _ _ _ _ _ _ _ (ap model_found (sym c.in_default.is) ∙ c.numbered.ensures) c.reject.ensures

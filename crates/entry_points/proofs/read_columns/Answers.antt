@@ -8,20 +8,20 @@ use Rattle.entry_points.proofs.read_columns.Goals as goal
 pub slice_bounds-read_tokens-end : goal.slice_bounds-read_tokens-end
 slice_bounds-read_tokens-end c = (lexes c.args.text.now c.in_ok-count.ensures.lexes).kinds
 
-pub slice_bounds-read_tokens-end-in_ok-count : goal.slice_bounds-read_tokens-end-in_ok-count
-slice_bounds-read_tokens-end-in_ok-count c = sym (length-take-le _ _ (lexes c.args.text.now c.in_ok-count.ensures.lexes).kinds)
+pub slice_bounds-read_tokens-end-2 : goal.slice_bounds-read_tokens-end-2
+slice_bounds-read_tokens-end-2 c = sym (length-take-le _ _ (lexes c.args.text.now c.in_ok-count.ensures.lexes).kinds)
 
-pub slice_bounds-read_tokens-end-in_ok-count-2 : goal.slice_bounds-read_tokens-end-in_ok-count-2
-slice_bounds-read_tokens-end-in_ok-count-2 c = (lexes c.args.text.now c.in_ok-count.ensures.lexes).places
+pub slice_bounds-read_tokens-end-3 : goal.slice_bounds-read_tokens-end-3
+slice_bounds-read_tokens-end-3 c = (lexes c.args.text.now c.in_ok-count.ensures.lexes).places
 
-pub slice_bounds-read_tokens-end-in_ok-count-3 : goal.slice_bounds-read_tokens-end-in_ok-count-3
-slice_bounds-read_tokens-end-in_ok-count-3 c = sym (length-take-le _ _ (lexes c.args.text.now c.in_ok-count.ensures.lexes).places)
+pub slice_bounds-read_tokens-end-4 : goal.slice_bounds-read_tokens-end-4
+slice_bounds-read_tokens-end-4 c = sym (length-take-le _ _ (lexes c.args.text.now c.in_ok-count.ensures.lexes).places)
 
-pub slice_bounds-read_tokens-end-in_ok-count-4 : goal.slice_bounds-read_tokens-end-in_ok-count-4
-slice_bounds-read_tokens-end-in_ok-count-4 c = (lexes c.args.text.now c.in_ok-count.ensures.lexes).numbers
+pub slice_bounds-read_tokens-end-5 : goal.slice_bounds-read_tokens-end-5
+slice_bounds-read_tokens-end-5 c = (lexes c.args.text.now c.in_ok-count.ensures.lexes).numbers
 
-pub slice_bounds-read_tokens-end-in_ok-count-5 : goal.slice_bounds-read_tokens-end-in_ok-count-5
-slice_bounds-read_tokens-end-in_ok-count-5 c = sym (length-take-le _ _ (lexes c.args.text.now c.in_ok-count.ensures.lexes).numbers)
+pub slice_bounds-read_tokens-end-6 : goal.slice_bounds-read_tokens-end-6
+slice_bounds-read_tokens-end-6 c = sym (length-take-le _ _ (lexes c.args.text.now c.in_ok-count.ensures.lexes).numbers)
 
 pub read_tokens-requires : goal.read_tokens-requires
 read_tokens-requires c = let l = lexes c.args.text.now c.in_ok-count.ensures.lexes in record { columns = text-columns l; places_below = text-places l c.args.links.now c.lex.new.links c.args.heads c.requires.scratch.links c.lex.auto.links; encodes = c.requires.encodes }
