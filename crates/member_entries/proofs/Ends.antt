@@ -39,22 +39,22 @@ unfolding noted
 noted-on true t es h = h
 noted-on false t es h = logged-on wide h
 
-module _ {t : Table} {c : Cursor} {w d : List ℕ} {v : List ℤ} {r : Reply ℕ} (m : Model) (union : Bool) (first at : ℕ) where
-  pub closed-refused : {n p : ℕ} → Lays t c w d v (layout m t union first at) r → r ≡ bad n p → Shows both (closed m union first at (state c t)) (bad n p) w d v
+module _ {t : Table} {c : Cursor} {w d : List ℕ} {v : List ℤ} (m : Model) (union : Bool) (first at : ℕ) where
+  pub closed-refused : {n p : ℕ} → Lays t c w d v (layout m t union first at) (bad n p) → Shows both (closed m union first at (state c t)) (bad n p) w d v
   unfolding closed
-  closed-refused (done x es a q h) e = let z : ◌≡◌ {A = ℕ} 0 1 = cc in absurd (omega arith)
-  closed-refused {n = n} {p} (stop k i a q l) e =
+  closed-refused (done x es a q h) = let z : ◌≡◌ {A = ℕ} 0 1 = cc in absurd (omega arith)
+  closed-refused {n = n} {p} (stop k i a q l) =
       let x : n ≡ k = cc in
       let y : p ≡ i = cc in
       rw (x, y) (halt _ a (no_left l refl))
 
-  pub closed-laid : {w' : List ℕ} {size count : ℕ} → Lays t c w d v (layout m t union first at) r → r ≡ ok c size
+  pub closed-laid : {w' : List ℕ} {size count : ℕ} → Lays t c w d v (layout m t union first at) (ok c size)
       → ChangesWords (λ u. with_members u (fields_only first u.members)) c w w' → Counted (λ u. how_many_carry (mark_of first) (drop first u.members)) c w' count
       → Shows both (closed m union first at (state c t)) (ok c (body_of size first count)) w' d v
   unfolding closed
-  closed-laid {size = size} {count} (done x es a q h) e f g =
+  closed-laid {size = size} {count} (done x es a q h) f g =
       let z : size ≡ x = cc in
       let k = (f.with d v).run (with_members t es) h in
       let y : count ≡ how_many_carry (mark_of first) (drop first (fields_only first es)) = g.of _ k.words k.counts in
       via _ a (rw (z, y) (got! (noted-on _ t _ k)))
-  closed-laid (stop n p a q l) e f g = let z : ◌≡◌ {A = ℕ} 0 1 = cc in absurd (omega arith)
+  closed-laid (stop n p a q l) f g = let z : ◌≡◌ {A = ℕ} 0 1 = cc in absurd (omega arith)

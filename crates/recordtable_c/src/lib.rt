@@ -6,6 +6,7 @@ ghost use Rattle.std.specs.Prelude.{◌≡◌, [], ◌∷◌, set};
 ghost use Rattle.definition.specs.Entry.{wholeHeader, singleDeclaration};
 ghost use Rattle.definition.specs.Lent.{zeroed, left_in};
 ghost use Rattle.clearing.specs.Slices.{lent};
+ghost use Rattle.entry_points.specs.Answers.{told};
 ghost use Rattle.recordtable_c.specs.Told.{outcome_in, number_of, numbers_of, number_told, numbers_told, over};
 
 use entry_points::{
@@ -37,11 +38,11 @@ fn put_six(answer: &mut [u64], a: usize, b: usize, c: usize, d: usize, e: usize,
 }
 
 fn tell(outcome: Outcome, answer: &mut [u64]) -> u32
-    ensures value { result ≡ number_told outcome }
-    ensures answer_after { answer.new ≡ over (numbers_told outcome) answer.old }
+    ensures value { result ≡ number_told (told outcome) }
+    ensures answer_after { answer.new ≡ over (numbers_told (told outcome)) answer.old }
 {
     match outcome {
-        Outcome::Accepted(c) => {
+        Ok(c) => {
             put_six(
                 answer,
                 c.rows,
@@ -53,9 +54,9 @@ fn tell(outcome: Outcome, answer: &mut [u64]) -> u32
             );
             ACCEPTED
         }
-        Outcome::Rejected(n, offset, line, column) => {
-            put_six(answer, offset, line, column, 0, 0, 0);
-            n
+        Err(e) => {
+            put_six(answer, e.offset, e.line, e.column, 0, 0, 0);
+            u32::from(e.reason)
         }
     }
 }

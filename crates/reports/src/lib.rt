@@ -9,6 +9,7 @@ ghost use Rattle.definition.specs.Listing.{or_lp64, printed_outcome};
 ghost use Rattle.clearing.specs.Slices.{lent};
 ghost use Rattle.printing.specs.Written.{Wrote};
 ghost use Rattle.model.specs.Meaning.{model};
+ghost use Rattle.entry_points.specs.Answers.{told};
 ghost use Rattle.reports.specs.Printed.{buffer_length, cursor_of, Table, Lists, Answered, Prints};
 
 use encoding::regions::{SIGNEDS, WIDES, WORDS};

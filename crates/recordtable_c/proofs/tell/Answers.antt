@@ -1,9 +1,11 @@
 use borrow.Author.Rules.{rules}
+use mathlib.Core.Path.{ap, ◌∙◌}
+use Rattle.entry_points.specs.Answers.{told}
 use Rattle.recordtable_c.proofs.Numbers.{told-accepted, told-refused}
 use Rattle.recordtable_c.proofs.tell.Goals as goal
 
-pub returns-in-Accepted : goal.returns-in-Accepted
-returns-in-Accepted c = let both = told-accepted _ _ _ _ c.in-Accepted.is c.put_six.ensures in record { value = both.0; answer_after = both.1 }
+pub returns-in-Ok : goal.returns-in-Ok
+returns-in-Ok c = let both = told-accepted _ _ _ _ (ap told c.in-Ok.is) c.put_six.ensures in record { value = both.0; answer_after = both.1 }
 
-pub returns-in-Rejected : goal.returns-in-Rejected
-returns-in-Rejected c = let both = told-refused _ _ _ _ _ _ _ c.in-Rejected.is c.put_six-in-Rejected.ensures in record { value = both.0; answer_after = both.1 }
+pub returns-in-Err : goal.returns-in-Err
+returns-in-Err c = let both = told-refused _ _ _ _ _ _ _ (ap told c.in-Err.is) c.put_six-in-Err.ensures in record { value = c.from.ensures ∙ both.0; answer_after = both.1 }
