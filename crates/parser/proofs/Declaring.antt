@@ -51,7 +51,7 @@ use Rattle.declarator_heads.specs.declared.Starred.{Starred}
 use Rattle.declarator_heads.specs.Heads.{stars, stars_here, Stars, Tells}
 use Rattle.declarator_heads.proofs.Waiting.{released-read}
 use Rattle.declarator_heads.proofs.Opens.{shut}
-use Rattle.parser.specs.Answers.{typed, both_numbers, declarator_of, declared, Starting, Declares}
+use Rattle.parser.specs.Answers.{typed, both_numbers, declarator_of, declaring, Starting, Declares}
 use Rattle.parser.specs.Pieces.{suffix_step, typed_from}
 use Rattle.parser.specs.declared.Declared.{Declared}
 use Rattle.parser.specs.declared.Typed.{Typed}
@@ -64,34 +64,32 @@ use Rattle.parser.proofs.Made.{no_suffix, full_bracket, full_parenthesis, bracke
 pub got_as : {X : Type 0} {x y : X} {t : Table} {c : Cursor} {w d : List ℕ} {v : List ℤ} → x ≡ y → Encodes t c w d v → Shows both (got (y, state c t)) (ok c x) w d v
 got_as e h = rw e (got! h)
 
--- what a declarator's answer is: its cursor and itself, or a refusal
-abbrev pub Answered : Type 0
-Answered = Result (Cursor × Declared) Refusal
+-- what a declarator's answer says of it
+declared_is : (r : Declared) {e : Cursor} {name : ℕ} → r.answer ≡ Ok (e, name) → declaring r ≡ ok e (declarator_of r.steps name)
+declared_is r q = ap (reply_by (declarator_of r.steps)) q
+
+refused-is : (r : Declared) {z : Refusal} → r.answer ≡ Err z → declaring r ≡ bad (number_of z.reason) z.at
+refused-is r q = ap (reply_by (declarator_of r.steps)) q
+
+unlike : {A : Type 0} {a : Result (Cursor × ℕ) Refusal} {z : Refusal} {y : Cursor × ℕ} → a ≡ Err z → a ≡ Ok y → A
+unlike q i = let o : ◌≡◌ {A = ℕ} 0 1 = cc in absurd (omega arith)
 
 -- a declarator that is refused: nothing is said of its steps
-unlike : {A : Type 0} {z : Refusal} {y : Cursor × Declared} → ◌≡◌ {A = Answered} (Err z) (Ok y) → A
-unlike q = let o : ◌≡◌ {A = ℕ} 0 1 = cc in absurd (omega arith)
-
-pub stops : {f : Reads Declarator} {c : Cursor} {s : Steps} {w d w' d' : List ℕ} {v v' : List ℤ} (z : Refusal)
-    → ((t : Table) → Encodes t c w d v → Shows both (f (state c t)) (bad (number_of z.reason) z.at) w' d' v') → Declares f c s w d v (Err z) w' d' v'
-stops z k = record { does = record { run = k }; stars = λ e x q. unlike q; waits = λ e x q. unlike q }
-
--- what an answer holds
-same_ok : {y y' : Cursor × Declared} → ◌≡◌ {A = Answered} (Ok y) (Ok y') → y ≡ y'
-same_ok q = cc
-
--- the same at a `?`
-pub stopped : {f : Reads Declarator} {c : Cursor} {s : Steps} {w d w' d' : List ℕ} {v v' : List ℤ} {r : Answered} (z : Refusal) → IsErrAnd r (λ y. y ≡ z)
+pub stops : {f : Reads Declarator} {c : Cursor} {s : Steps} {w d w' d' : List ℕ} {v v' : List ℤ} {r : Declared} (z : Refusal) → r.answer ≡ Err z
     → ((t : Table) → Encodes t c w d v → Shows both (f (state c t)) (bad (number_of z.reason) z.at) w' d' v') → Declares f c s w d v r w' d' v'
-stopped {r = r} z q k = let x = err_from_is_err_and r q in rw (x.1, x.2) (stops z k)
+stops {f} {c} {w' = w'} {d'} {v' = v'} {r} z q k = record {
+  does = record { run = λ t h. subst (λ (y : Reply Declarator). Shows both (f (state c t)) y w' d' v') (sym (refused-is r q)) (k t h) };
+  stars = λ e name i. unlike q i;
+  waits = λ e name i. unlike q i;
+}
 
 -- one that is declared: what the slices hold, and how many steps there can be
-module _ {f : Reads Declarator} {c e : Cursor} {s : Steps} {w d w' d' : List ℕ} {v v' : List ℤ} {x : Declared} (g : Declares f c s w d v (Ok (e, x)) w' d' v') where
+module _ {f : Reads Declarator} {c e : Cursor} {s : Steps} {w d w' d' : List ℕ} {v v' : List ℤ} {r : Declared} {name : ℕ} (g : Declares f c s w d v r w' d' v') (q : r.answer ≡ Ok (e, name)) where
   pub declared_held : Held c w d v → Held e w' d' v'
-  declared_held h = held_next g.does h
+  declared_held h = held_on g.does h (declared_is r q)
 
-  pub declared_few : x.steps.len ≤ max_steps
-  declared_few = omega (arith, (g.waits e x refl).apart)
+  pub declared_few : r.steps.len ≤ max_steps
+  declared_few = omega (arith, (g.waits e name q).apart)
 
 -- ---- what is pending
 
@@ -129,24 +127,23 @@ module _ (ts : Tokens) (m : Model) {room : ℕ} (used : ℕ) (s : State) where
 
 -- ---- `declared_type`
 
-module _ (inner : Levels) (b : ℕ) {c : Cursor} {s : Steps} {w d w' d' : List ℕ} {v v' : List ℤ} (e : s ≡ no_steps) where
-  first : {r : Answered} → Declares (inner.declarator s.held) c s w d v r w' d' v' → Does (inner.declarator 0) c w d v (reply_by declared r) w' d' v'
-  first {r} g = subst (λ (i : ℕ). Does (inner.declarator i) c w d v (reply_by declared r) w' d' v') (held-is s (none-pending e)) g.does
+module _ (inner : Levels) (b : ℕ) {c : Cursor} {s : Steps} {w d w' d' : List ℕ} {v v' : List ℤ} {r : Declared} (e : s ≡ no_steps) (g : Declares (inner.declarator s.held) c s w d v r w' d' v') where
+  first : Does (inner.declarator 0) c w d v (declaring r) w' d' v'
+  first = subst (λ (i : ℕ). Does (inner.declarator i) c w d v (declaring r) w' d' v') (held-is s (none-pending e)) g.does
 
-  pub typed-stop : (z : Refusal) (r : Result (Cursor × Typed) Refusal) → Declares (inner.declarator s.held) c s w d v (Err z) w' d' v' → IsErrAnd r (λ y. y ≡ z)
-      → Runs both_numbers (typed_from inner b) c w d v (reply_by typed r) w' d' v'
+  pub typed-stop : (z : Refusal) (r' : Result (Cursor × Typed) Refusal) → r.answer ≡ Err z → IsErrAnd r' (λ y. y ≡ z) → Runs both_numbers (typed_from inner b) c w d v (reply_by typed r') w' d' v'
   unfolding typed_from
-  typed-stop z r g q = record { run = λ t h. exit (reply_by typed) _ ((first g).run t h) q refl }
+  typed-stop z r' q j = let x = err_from_is_err_and r' j in rw (x.1, x.2) (record { run = λ t h. refuse _ (first.run t h) (refused-is r q) refl })
 
-  module _ {f : Cursor} {x : Declared} (g : Declares (inner.declarator s.held) c s w d v (Ok (f, x)) w' d' v') {w'' d'' : List ℕ} {v'' : List ℤ} where
-    pub typed-refused : (z : Refusal) (r : Result (Cursor × Typed) Refusal) → Does (apply (pending x.steps).steps b) f w' d' v' (bad (number_of z.reason) z.at) w'' d'' v'' → IsErrAnd r (λ y. y ≡ z)
-        → Runs both_numbers (typed_from inner b) c w d v (reply_by typed r) w'' d'' v''
+  module _ {f : Cursor} {name : ℕ} (q : r.answer ≡ Ok (f, name)) {w'' d'' : List ℕ} {v'' : List ℤ} where
+    pub typed-refused : (z : Refusal) (r' : Result (Cursor × Typed) Refusal) → Does (apply (pending r.steps).steps b) f w' d' v' (bad (number_of z.reason) z.at) w'' d'' v'' → IsErrAnd r' (λ y. y ≡ z)
+        → Runs both_numbers (typed_from inner b) c w d v (reply_by typed r') w'' d'' v''
     unfolding typed_from
-    typed-refused z r a q = record { run = λ t h. next _ ((first g).run t h) (λ t₁ h₁. exit (reply_by typed) _ (a.run t₁ h₁) q refl) }
+    typed-refused z r' a j = record { run = λ t h. call _ (first.run t h) (declared_is r q) (λ t₁ h₁. exit (reply_by typed) _ (a.run t₁ h₁) j refl) }
 
-    pub typed-done : {e' : Cursor} {type : ℕ} → Does (apply (pending x.steps).steps b) f w' d' v' (ok e' type) w'' d'' v'' → Runs both_numbers (typed_from inner b) c w d v (ok e' (type, x.name)) w'' d'' v''
+    pub typed-done : {e' : Cursor} {type : ℕ} → Does (apply (pending r.steps).steps b) f w' d' v' (ok e' type) w'' d'' v'' → Runs both_numbers (typed_from inner b) c w d v (ok e' (type, name)) w'' d'' v''
     unfolding typed_from
-    typed-done a = record { run = λ t h. next _ ((first g).run t h) (λ t₁ h₁. next _ (a.run t₁ h₁) (λ t₂ h₂. got! h₂)) }
+    typed-done a = record { run = λ t h. call _ (first.run t h) (declared_is r q) (λ t₁ h₁. next _ (a.run t₁ h₁) (λ t₂ h₂. got! h₂)) }
 
 -- ---- `declarator`
 
@@ -171,64 +168,62 @@ module _ (ks ns : List ℕ) (m : Model) (room : ℕ) {c : Cursor} {s : Steps} (w
   read-stars : Does (stars_here (tokens ks ns) s.held) c w d v (stars g.read t.answer) w d v
   read-stars = g.does ns w d v s.held (omega (arith, o.none))
 
-  pub stars-stop : {i : Refusal} {r : Answered} → t.answer ≡ Err i → IsErrAnd r (λ y. y ≡ i) → Declares ((levels (tokens ks ns) m room).declarator s.held) c s w d v r w d v
+  pub stars-stop : (i : Refusal) {r : Declared} → t.answer ≡ Err i → r.answer ≡ Err i → Declares ((levels (tokens ks ns) m room).declarator s.held) c s w d v r w d v
   unfolding declarator₁
-  stars-stop q j = stopped _ j (λ b h. by (a-declarator (tokens ks ns) m s.held (state c b) z) (refuse _ (read-stars.run b h) (ap (stars g.read) q) refl))
+  stars-stop i q j = stops i j (λ b h. by (a-declarator (tokens ks ns) m s.held (state c b) z) (refuse _ (read-stars.run b h) (ap (stars g.read) q) refl))
 
-  module _ {e : Cursor} (q : t.answer ≡ Ok e) {w' d' : List ℕ} {v' : List ℤ} where
-    rest : {r : Answered} → Declares ((levels (tokens ks ns) m (room - 1)).direct t.steps.held) e t.steps w d v r w' d' v'
-        → Does ((levels (tokens ks ns) m (room - 1)).direct (s.held + length g.read)) e w d v (reply_by declared r) w' d' v'
-    rest {r} f = subst (λ (i : ℕ). Does ((levels (tokens ks ns) m (room - 1)).direct i) e w d v (reply_by declared r) w' d' v') g.holds.held f.does
+  module _ {e : Cursor} (q : t.answer ≡ Ok e) {w' d' : List ℕ} {v' : List ℤ} {r : Declared} (f : Declares ((levels (tokens ks ns) m (room - 1)).direct t.steps.held) e t.steps w d v r w' d' v') where
+    rest : Does ((levels (tokens ks ns) m (room - 1)).direct (s.held + length g.read)) e w d v (declaring r) w' d' v'
+    rest = subst (λ (i : ℕ). Does ((levels (tokens ks ns) m (room - 1)).direct i) e w d v (declaring r) w' d' v') g.holds.held f.does
 
-    pub direct-stop : {i : Refusal} {r : Answered} → Declares ((levels (tokens ks ns) m (room - 1)).direct t.steps.held) e t.steps w d v (Err i) w' d' v' → IsErrAnd r (λ y. y ≡ i)
-        → Declares ((levels (tokens ks ns) m room).declarator s.held) c s w d v r w' d' v'
+    pub direct-stop : (i : Refusal) → r.answer ≡ Err i → Declares ((levels (tokens ks ns) m room).declarator s.held) c s w d v r w' d' v'
     unfolding declarator₁
-    direct-stop f j = stopped _ j (λ b h. by (a-declarator (tokens ks ns) m s.held (state c b) z)
-        (call _ (read-stars.run b h) (ap (stars g.read) q) (λ b₁ h₁. refuse _ ((rest f).run b₁ h₁) refl refl)))
+    direct-stop i y = stops i y (λ b h. by (a-declarator (tokens ks ns) m s.held (state c b) z)
+        (call _ (read-stars.run b h) (ap (stars g.read) q) (λ b₁ h₁. refuse _ (rest.run b₁ h₁) (refused-is r y) refl)))
 
-    module _ {e' : Cursor} {x : Declared} (f : Declares ((levels (tokens ks ns) m (room - 1)).direct t.steps.held) e t.steps w d v (Ok (e', x)) w' d' v') where
-      -- no star was read
-      module _ (y : t.steps.held ≡ s.held) where
-        none_read : g.read ≡ []
-        none_read = no_length g.read (omega (arith, g.holds.held, y))
+    -- no star was read
+    module _ (y : t.steps.held ≡ s.held) where
+      none_read : g.read ≡ []
+      none_read = no_length g.read (omega (arith, g.holds.held, y))
 
-        pub unstarred : Declares ((levels (tokens ks ns) m room).declarator s.held) c s w d v (Ok (e', x)) w' d' v'
-        unfolding declarator₁
-        unstarred = record {
-          does = record {
-            run = λ b h. by (a-declarator (tokens ks ns) m s.held (state c b) z)
-                (call _ (read-stars.run b h) (ap (stars g.read) q) (λ b₁ h₁. by (before-none _ none_read) ((rest f).run b₁ h₁)));
-          };
-          stars = λ e₁ x₁ k₁. f.stars e₁ x₁ k₁ ∙ (ap (λ p. p.stars) g.holds.all ∙ ap (λ l. l ++ (pending s).stars) none_read);
-          waits = λ e₁ x₁ k₁. subst (λ (i : ℕ). Waiting x₁.steps i) y (f.waits e₁ x₁ k₁);
-        }
+      pub unstarred : Declares ((levels (tokens ks ns) m room).declarator s.held) c s w d v r w' d' v'
+      unfolding declarator₁
+      unstarred = record {
+        does = record {
+          run = λ b h. by (a-declarator (tokens ks ns) m s.held (state c b) z)
+              (call _ (read-stars.run b h) (ap (stars g.read) q) (λ b₁ h₁. by (before-none _ none_read) (rest.run b₁ h₁)));
+        };
+        stars = λ e₁ n₁ k₁. f.stars e₁ n₁ k₁ ∙ (ap (λ p. p.stars) g.holds.all ∙ ap (λ l. l ++ (pending s).stars) none_read);
+        waits = λ e₁ n₁ k₁. subst (λ (i : ℕ). Waiting r.steps i) y (f.waits e₁ n₁ k₁);
+      }
 
+    module _ {e' : Cursor} {name : ℕ} (y : r.answer ≡ Ok (e', name)) where
       -- the stars that were read wait, and can be released
-      pub stars_wait : Waiting x.steps (t.steps.held - s.held)
-      stars_wait = record { stars = omega (arith, (f.waits e' x refl).stars); apart = (f.waits e' x refl).apart }
+      pub stars_wait : Waiting r.steps (t.steps.held - s.held)
+      stars_wait = record { stars = omega (arith, (f.waits e' name y).stars); apart = (f.waits e' name y).apart }
 
-      module _ (u : Steps) (l : pending u ≡ released (t.steps.held - s.held) (pending x.steps)) where
-        all : pending u ≡ record { steps = starred g.read (pending x.steps).steps; stars = (pending s).stars }
-        all = l ∙ released-read (pending x.steps) g.holds (f.stars e' x refl)
+      module _ (u : Steps) (l : pending u ≡ released (t.steps.held - s.held) (pending r.steps)) where
+        all : pending u ≡ record { steps = starred g.read (pending r.steps).steps; stars = (pending s).stars }
+        all = l ∙ released-read (pending r.steps) g.holds (f.stars e' name y)
 
         still : Waiting u s.held
         still =
-            let n = release_counts u x.steps (t.steps.held - s.held) stars_wait.stars l in
+            let n = release_counts u r.steps (t.steps.held - s.held) stars_wait.stars l in
             record {
-              stars = omega (arith, n.1, g.holds.held, (f.waits e' x refl).stars);
-              apart = omega (arith, n.0, n.1, (f.waits e' x refl).apart);
+              stars = omega (arith, n.1, g.holds.held, (f.waits e' name y).stars);
+              apart = omega (arith, n.0, n.1, (f.waits e' name y).apart);
             }
 
-        pub direct-done : Declares ((levels (tokens ks ns) m room).declarator s.held) c s w d v (Ok (e', record { name = x.name; steps = u })) w' d' v'
+        pub direct-done : {a : Result (Cursor × ℕ) Refusal} {x : Declared} → a ≡ Ok (e', name) → x ≡ record { answer = a; steps = u } → Declares ((levels (tokens ks ns) m room).declarator s.held) c s w d v x w' d' v'
         unfolding declarator₁
-        direct-done = record {
+        direct-done j i = rw (i, j) (record {
           does = record {
             run = λ b h. by (a-declarator (tokens ks ns) m s.held (state c b) z) (call _ (read-stars.run b h) (ap (stars g.read) q)
-                (λ b₁ h₁. next _ ((rest f).run b₁ h₁) (λ b₂ h₂. got_as (ap (λ p. record { steps = p.steps; name = x.name }) all) h₂)));
+                (λ b₁ h₁. call _ (rest.run b₁ h₁) (declared_is r y) (λ b₂ h₂. got_as (ap (λ p. record { steps = p.steps; name = name }) all) h₂)));
           };
-          stars = λ e₁ x₁ k₁. ap (λ y. (pending y.1.steps).stars) (sym (same_ok k₁)) ∙ ap (λ p. p.stars) all;
-          waits = λ e₁ x₁ k₁. subst (λ (y : Cursor × Declared). Waiting y.1.steps s.held) (same_ok k₁) still;
-        }
+          stars = λ e'' name'' k''. ap (λ p. p.stars) all;
+          waits = λ e'' name'' k''. still;
+        })
 
 -- ---- `direct`
 
@@ -245,7 +240,7 @@ after_none : (ts : Tokens) (m : Model) (next : Levels) (s : Steps) → Starting 
 after_none ts m next s o n name x e = ap (λ (y : Declarator). suffixes ts m next s.held y x) (sym (no_steps_lem s n o.none ∙ ap named e))
 
 module _ (ks ns : List ℕ) (m : Model) (room : ℕ) {c : Cursor} {s : Steps} {w d : List ℕ} {v : List ℤ} (o : Starting s) (z : room ≡ 0 → ⊥) where
-  pub by_name : {c' : Cursor} {r : Answered} {name : ℕ} {w' d' : List ℕ} {v' : List ℤ} → is_name (kind_at (tokens ks ns) c.at) ≡ true → Peek ns c.at name → c' ≡ moved_to c (c.at + 1)
+  pub by_name : {c' : Cursor} {r : Declared} {name : ℕ} {w' d' : List ℕ} {v' : List ℤ} → is_name (kind_at (tokens ks ns) c.at) ≡ true → Peek ns c.at name → c' ≡ moved_to c (c.at + 1)
       → Declares (suffixes (tokens ks ns) m (levels (tokens ks ns) m (room - 1)) s.held (declarator_of s name)) c' s w d v r w' d' v'
       → Declares ((levels (tokens ks ns) m room).direct s.held) c s w d v r w' d' v'
   unfolding direct₁
@@ -256,7 +251,7 @@ module _ (ks ns : List ℕ) (m : Model) (room : ℕ) {c : Cursor} {s : Steps} {w
   }
 
   module _ (i : is_name (kind_at (tokens ks ns) c.at) ≡ false) {x : Bool} (q : Tells (λ t. opens_declarator (tokens ks ns) m (state c t)) c w x) where
-    pub by-nothing : {r : Answered} {w' d' : List ℕ} {v' : List ℤ} → x ≡ false
+    pub by-nothing : {r : Declared} {w' d' : List ℕ} {v' : List ℤ} → x ≡ false
         → Declares (suffixes (tokens ks ns) m (levels (tokens ks ns) m (room - 1)) s.held (declarator_of s no_name)) c s w d v r w' d' v'
         → Declares ((levels (tokens ks ns) m room).direct s.held) c s w d v r w' d' v'
     unfolding direct₁
@@ -278,30 +273,31 @@ module _ (ks ns : List ℕ) (m : Model) (room : ℕ) {c : Cursor} {s : Steps} {w
       unfolding direct₁
       inner-is b h = a-direct (tokens ks ns) m s.held (state c b) z ∙ (nay _ _ _ i ∙ yes _ _ _ (sym (q.of b h.words h.index h.counts) ∙ e))
 
-      module _ {c' : Cursor} {w₁ d₁ : List ℕ} {v₁ : List ℤ} (k : c' ≡ moved_to c (c.at + 1)) where
-        pub inner-stop : {j : Refusal} {r : Answered} → Declares ((levels (tokens ks ns) m (room - 1)).declarator s.held) c' s w d v (Err j) w₁ d₁ v₁ → IsErrAnd r (λ y. y ≡ j)
-            → Declares ((levels (tokens ks ns) m room).direct s.held) c s w d v r w₁ d₁ v₁
-        inner-stop g y = stopped _ y (λ b h. by (inner-is b h) (refuse _ (step-on k g.does h) refl refl))
+      module _ {c' : Cursor} {t : Declared} {w₁ d₁ : List ℕ} {v₁ : List ℤ} (k : c' ≡ moved_to c (c.at + 1))
+          (g : Declares ((levels (tokens ks ns) m (room - 1)).declarator s.held) c' s w d v t w₁ d₁ v₁) where
+        pub inner-stop : (j : Refusal) → t.answer ≡ Err j → Declares ((levels (tokens ks ns) m room).direct s.held) c s w d v t w₁ d₁ v₁
+        inner-stop j y = stops j y (λ b h. by (inner-is b h) (refuse _ (step-on k g.does h) (refused-is t y) refl))
 
-        module _ {e' : Cursor} {t : Declared} {j : ℕ} (g : Declares ((levels (tokens ks ns) m (room - 1)).declarator s.held) c' s w d v (Ok (e', t)) w₁ d₁ v₁) (p : Peek ks e'.at j) where
-          pub not_closed_lem : (j ≡ close_paren → ⊥) → Declares ((levels (tokens ks ns) m room).direct s.held) c s w d v (Err (record { reason = MissingMark; at = e'.at })) w₁ d₁ v₁
-          not_closed_lem n = stops _ (λ b h. by (inner-is b h) (next _ (step-on k g.does h) (λ b₁ h₁. missed (tokens ks ns) (state e' b₁) _ p n (no! h₁ refl))))
+        module _ {e' : Cursor} {name j : ℕ} (y : t.answer ≡ Ok (e', name)) (p : Peek ks e'.at j) where
+          pub not_closed_lem : {r : Declared} → (j ≡ close_paren → ⊥) → r.answer ≡ Err (record { reason = MissingMark; at = e'.at }) → Declares ((levels (tokens ks ns) m room).direct s.held) c s w d v r w₁ d₁ v₁
+          not_closed_lem n l = stops _ l (λ b h. by (inner-is b h) (call _ (step-on k g.does h) (declared_is t y) (λ b₁ h₁. missed (tokens ks ns) (state e' b₁) _ p n (no! h₁ refl))))
 
-          pub closed : {e'' : Cursor} {r : Answered} {w' d' : List ℕ} {v' : List ℤ} → j ≡ close_paren → e'' ≡ moved_to e' (e'.at + 1)
-              → Declares (suffixes (tokens ks ns) m (levels (tokens ks ns) m (room - 1)) t.steps.held (declarator_of t.steps t.name)) e'' t.steps w₁ d₁ v₁ r w' d' v'
+          pub closed : {e'' : Cursor} {r : Declared} {w' d' : List ℕ} {v' : List ℤ} → j ≡ close_paren → e'' ≡ moved_to e' (e'.at + 1)
+              → Declares (suffixes (tokens ks ns) m (levels (tokens ks ns) m (room - 1)) t.steps.held (declarator_of t.steps name)) e'' t.steps w₁ d₁ v₁ r w' d' v'
               → Declares ((levels (tokens ks ns) m room).direct s.held) c s w d v r w' d' v'
           closed {e''} {r} {w'} {d'} {v'} l k' f =
-              let n : t.steps.held ≡ s.held = same-held t.steps s (g.stars e' t refl) in
-              let a = subst (λ (i : ℕ). Does (suffixes (tokens ks ns) m (levels (tokens ks ns) m (room - 1)) i (declarator_of t.steps t.name)) e'' w₁ d₁ v₁ (reply_by declared r) w' d' v') n f.does in
+              let n : t.steps.held ≡ s.held = same-held t.steps s (g.stars e' name y) in
+              let a = subst (λ (i : ℕ). Does (suffixes (tokens ks ns) m (levels (tokens ks ns) m (room - 1)) i (declarator_of t.steps name)) e'' w₁ d₁ v₁ (declaring r) w' d' v') n f.does in
               record {
-                does = record { run = λ b h. by (inner-is b h) (next _ (step-on k g.does h) (λ b₁ h₁. ate (tokens ks ns) (state e' b₁) _ p l (step-on k' a h₁))) };
-                stars = λ a₁ b₁ j₁. f.stars a₁ b₁ j₁ ∙ g.stars e' t refl;
-                waits = λ a₁ b₁ j₁. subst (λ (i : ℕ). Waiting b₁.steps i) n (f.waits a₁ b₁ j₁);
+                does = record { run = λ b h. by (inner-is b h) (call _ (step-on k g.does h) (declared_is t y) (λ b₁ h₁. ate (tokens ks ns) (state e' b₁) _ p l (step-on k' a h₁))) };
+                stars = λ a₁ b₁ j₁. f.stars a₁ b₁ j₁ ∙ g.stars e' name y;
+                waits = λ a₁ b₁ j₁. subst (λ (i : ℕ). Waiting r.steps i) n (f.waits a₁ b₁ j₁);
               }
 
 -- the stars that waited before a declarator in parentheses wait after it
-pub declared_waits : {f : Reads Declarator} {c e : Cursor} {s : Steps} {w d w' d' : List ℕ} {v v' : List ℤ} {x : Declared} → Declares f c s w d v (Ok (e, x)) w' d' v' → Waiting x.steps x.steps.held
-declared_waits {e = e} {x = x} g = record { stars = le_refl _; apart = (g.waits e x refl).apart }
+pub declared_waits : {f : Reads Declarator} {c e : Cursor} {s : Steps} {w d w' d' : List ℕ} {v v' : List ℤ} {r : Declared} {name : ℕ} → Declares f c s w d v r w' d' v' → r.answer ≡ Ok (e, name)
+    → Waiting r.steps r.steps.held
+declared_waits {e = e} {name = name} g q = record { stars = le_refl _; apart = (g.waits e name q).apart }
 
 -- ---- `suffixes`
 
@@ -332,15 +328,15 @@ module _ {ks ns : List ℕ} {m : Model} {room name : ℕ} {c : Cursor} {s : Step
   count = omega (arith, same-held t s g.stars, length-steps t.kinds t.operands t.len)
 
   -- no suffix stands here
-  pub ended : {k : ℕ} → Peek ks here.at k → (k ≡ open_bracket → ⊥) → (k ≡ open_paren → ⊥)
-      → Declares (suffixes (tokens ks ns) m (levels (tokens ks ns) m room) s.held (declarator_of s name)) c s w₀ d₀ v₀ (Ok (here, record { name = name; steps = t })) w d v
-  ended p a b = record {
+  pub ended : {k : ℕ} {r : Declared} → Peek ks here.at k → (k ≡ open_bracket → ⊥) → (k ≡ open_paren → ⊥) → r ≡ record { answer = Ok (here, name); steps = t }
+      → Declares (suffixes (tokens ks ns) m (levels (tokens ks ns) m room) s.held (declarator_of s name)) c s w₀ d₀ v₀ r w d v
+  ended p a b e = rw e (record {
     does = record {
       run = λ x h. turn (g.going x h) (λ x₁ f l h₁. by (no_suffix (tokens ks ns) m (levels (tokens ks ns) m room) f s.held (declarator_of t name) (state here x₁) (λ q. a (p.is ∙ q)) (λ q. b (p.is ∙ q))) (got! h₁));
     };
-    stars = λ e₁ x₁ q₁. ap (λ y. (pending y.1.steps).stars) (sym (same_ok q₁)) ∙ g.stars;
-    waits = λ e₁ x₁ q₁. subst (λ (y : Cursor × Declared). Waiting y.1.steps s.held) (same_ok q₁) (record { stars = omega (arith, same-held t s g.stars); apart = g.apart });
-  }
+    stars = λ e₁ n₁ q₁. g.stars;
+    waits = λ e₁ n₁ q₁. record { stars = omega (arith, same-held t s g.stars); apart = g.apart };
+  })
 
   module _ {k : ℕ} (p : Peek ks here.at k) (a : (k ≡ open_bracket) ⊎ (k ≡ open_paren)) where
     pub suffix-there : here.at < length ks
@@ -361,8 +357,8 @@ module _ {ks ns : List ℕ} {m : Model} {room name : ℕ} {c : Cursor} {s : Step
     made-is f x i (inr e) h = parenthesis_made (tokens ks ns) m (levels (tokens ks ns) m room) f s.held (declarator_of t name) x (i ∙ e) (omega (arith, count, h))
 
     module _ {x : Bool} (q : x ≡ leb max_steps (t.held + t.len)) where
-      pub full : x ≡ true → Declares (suffixes (tokens ks ns) m (levels (tokens ks ns) m room) s.held (declarator_of s name)) c s w₀ d₀ v₀ (Err (record { reason = LimitPassed; at = here.at + 1 })) w d v
-      full e = stops _ (λ b h. turn (g.going b h) (λ b₁ f l h₁. by (full_is f (state here b₁) (sym p.is) a (leb-true max_steps (t.held + t.len) (sym q ∙ e))) (no! h₁ refl)))
+      pub full : {r : Declared} → x ≡ true → r.answer ≡ Err (record { reason = LimitPassed; at = here.at + 1 }) → Declares (suffixes (tokens ks ns) m (levels (tokens ks ns) m room) s.held (declarator_of s name)) c s w₀ d₀ v₀ r w d v
+      full e i = stops _ i (λ b h. turn (g.going b h) (λ b₁ f l h₁. by (full_is f (state here b₁) (sym p.is) a (leb-true max_steps (t.held + t.len) (sym q ∙ e))) (no! h₁ refl)))
 
       module _ (e : x ≡ false) where
         low : t.held + t.len < max_steps
@@ -373,9 +369,9 @@ module _ {ks ns : List ℕ} {m : Model} {room name : ℕ} {c : Cursor} {s : Step
               → Does (suffix_step (tokens ks ns) m (levels (tokens ks ns) m room) (kind_at (tokens ks ns) here.at)) c' w d v r w' d' v'
           here-step {r} f = subst (λ (j : ℕ). Does (suffix_step (tokens ks ns) m (levels (tokens ks ns) m room) j) c' w d v r w' d' v') p.is f
 
-          pub suffix-stop : (j : Refusal) {r : Answered} → Does (suffix_step (tokens ks ns) m (levels (tokens ks ns) m room) k) c' w d v (bad (number_of j.reason) j.at) w' d' v' → IsErrAnd r (λ y. y ≡ j)
+          pub suffix-stop : (j : Refusal) {r : Declared} → Does (suffix_step (tokens ks ns) m (levels (tokens ks ns) m room) k) c' w d v (bad (number_of j.reason) j.at) w' d' v' → r.answer ≡ Err j
               → Declares (suffixes (tokens ks ns) m (levels (tokens ks ns) m room) s.held (declarator_of s name)) c s w₀ d₀ v₀ r w' d' v'
-          suffix-stop j f z = stopped j z (λ b h. turn (g.going b h) (λ b₁ l j h₁. by (made-is l (state here b₁) (sym p.is) a low) (refuse _ (step-on i (here-step f) h₁) refl refl)))
+          suffix-stop j f z = stops j z (λ b h. turn (g.going b h) (λ b₁ l j h₁. by (made-is l (state here b₁) (sym p.is) a low) (refuse _ (step-on i (here-step f) h₁) refl refl)))
 
           module _ {e' : Cursor} (y : Kept) (f : Does (suffix_step (tokens ks ns) m (levels (tokens ks ns) m room) k) c' w d v (ok e' (step_of y)) w' d' v') where
             pub suffix-held : Held e' w' d' v'

@@ -1,5 +1,5 @@
 -- What the parser's answers mean.
-use Rattle.std.specs.Prelude.{◌≡◌, List, ℕ, ◌≤◌, ◌<◌, ℤ, length, Result, Ok}
+use Rattle.std.specs.Prelude.{◌≡◌, List, ℕ, ◌≤◌, ◌<◌, ℤ, length, Ok}
 use Rattle.definition.specs.Answer.{Answer}
 use Rattle.definition.specs.Limit.{max_text}
 use Rattle.definition.specs.Table.{State, Reads}
@@ -7,7 +7,6 @@ use Rattle.definition.specs.Grammar.{Declarator}
 use Rattle.definition.specs.Token.{Tokens}
 use Rattle.definition.specs.Model.{Model}
 use Rattle.definition.specs.Reader.{levels}
-use Rattle.encoding.specs.declared.refusals.Refusal.{Refusal}
 use Rattle.table.specs.Reply.{Reply, reply_by, Nothing, Does, Moves, Runs}
 use Rattle.table.specs.declared.Cursor.{Cursor}
 use Rattle.naming.specs.Names.{NamesFit}
@@ -34,8 +33,8 @@ both_numbers x s = (x.0, x.1, s)
 abbrev pub declarator_of : Steps → ℕ → Declarator
 declarator_of s name = record { steps = (pending s).steps; name = name }
 
-abbrev pub declared : Declared → Declarator
-declared x = declarator_of x.steps x.name
+abbrev pub declaring : Declared → Reply Declarator
+declaring r = reply_by (declarator_of r.steps) r.answer
 
 -- no steps yet, and stars that may wait
 pub record Starting (s : Steps) : Type 0 where
@@ -43,10 +42,10 @@ pub record Starting (s : Steps) : Type 0 where
   pub waiting : Waiting s s.held
 
 -- The code declares what f says, and the stars that waited before still wait.
-pub record Declares (f : Reads Declarator) (c : Cursor) (s : Steps) (w d : List ℕ) (v : List ℤ) (r : Result (Cursor × Declared) Refusal) (w' d' : List ℕ) (v' : List ℤ) : Type 0 where
-  pub does : Does f c w d v (reply_by declared r) w' d' v'
-  pub stars : (e : Cursor) (x : Declared) → r ≡ Ok (e, x) → (pending x.steps).stars ≡ (pending s).stars
-  pub waits : (e : Cursor) (x : Declared) → r ≡ Ok (e, x) → Waiting x.steps s.held
+pub record Declares (f : Reads Declarator) (c : Cursor) (s : Steps) (w d : List ℕ) (v : List ℤ) (r : Declared) (w' d' : List ℕ) (v' : List ℤ) : Type 0 where
+  pub does : Does f c w d v (declaring r) w' d' v'
+  pub stars : (e : Cursor) (name : ℕ) → r.answer ≡ Ok (e, name) → (pending r.steps).stars ≡ (pending s).stars
+  pub waits : (e : Cursor) (name : ℕ) → r.answer ≡ Ok (e, name) → Waiting r.steps s.held
 
 -- The same for a definition that counts rounds: with any number of them above l.
 pub record MovesIn (g : ℕ → State → Answer State) (l : ℕ) (c : Cursor) (w d : List ℕ) (v : List ℤ) (r : Reply Nothing) (w' d' : List ℕ) (v' : List ℤ) : Type 0 where

@@ -1,7 +1,7 @@
 #![tactic(auto, using(table::proofs::Shown::held_next))]
 // The parser's cycle: specifiers, structs and unions, declarators and parameter lists. `room` is how many levels of nesting are left, as the
 // definition's `levels` counts them; the functions inside a level have the room of the level below it.
-ghost use Rattle.std.specs.Prelude.{◌≡◌, true, suc, ◌≤◌, ◌<◌, length};
+ghost use Rattle.std.specs.Prelude.{◌≡◌, true, suc, ◌≤◌, ◌<◌, length, Err};
 ghost use Rattle.definition.specs.Limit.{max_members, max_parameters};
 ghost use Rattle.definition.specs.Token.{left};
 ghost use Rattle.definition.specs.Specifiers.{tagged_type, specifiers};
@@ -49,10 +49,10 @@ use words::specifiers::Specifiers;
 // The levels that a name takes: a declarator's, and that of what its stars stand before.
 const NAME_LEVELS: u32 = 2;
 
-// The name that a declarator declares, 0 for none, and its steps.
+// Where to read on after a declarator and the name that it declares, 0 for none, or a refusal; and its steps, of which 3 KB in a result would be copied at each `?`.
 #[derive(Clone, Copy)]
 struct Declared {
-    name: u32,
+    answer: Answer<u32>,
     steps: Steps,
 }
 
@@ -465,6 +465,15 @@ fn one_member(
 
 // ---- declarators
 
+fn refused(reason: Reason, at: usize, steps: Steps) -> Declared
+    ensures { result ≡ record { answer = Err (record { reason = reason; at = at }); steps = steps } }
+{
+    Declared {
+        answer: Err(Refusal { reason, at }),
+        steps,
+    }
+}
+
 // Stars, and what they stand before. The stars of the declarators around this one wait in `s`; it has no steps yet.
 #[cycle(levels)]
 fn declarator(
@@ -477,30 +486,34 @@ fn declarator(
     m: Model,
     s: Steps,
     room: u32,
-) -> Answer<Declared>
+) -> Declared
     requires held { Held c w.old d.old v.old }
     requires readable { Readable kinds.now numbers.now }
     requires starting { Starting s }
     ensures { Declares ((levels (tokens kinds.now numbers.now) (model m) room).declarator s.held) c s w.old d.old v.old result w.new d.new v.new }
 {
     if room == 0 {
-        return Err(Refusal {
-            reason: Reason::TooDeep,
-            at: c.at,
-        });
+        return refused(Reason::TooDeep, c.at, s);
     }
     let used = s.held;
     let t = stars(kinds, c, s);
-    let e = t.answer?;
     let held = t.steps;
+    let e = match t.answer {
+        Ok(e) => e,
+        Err(x) => return refused(x.reason, x.at, held),
+    };
     let all = held.held;
-    let (f, x) = direct(kinds, numbers, w, d, v, e, m, held, room - 1)?;
+    let r = direct(kinds, numbers, w, d, v, e, m, held, room - 1);
     if all == used {
-        return Ok((f, x));
+        return r;
     }
-    let name = x.name;
-    let steps = x.steps.release_stars(all - used);
-    Ok((f, Declared { name, steps }))
+    let Ok(_) = r.answer else {
+        return r;
+    };
+    Declared {
+        steps: r.steps.release_stars(all - used),
+        ..r
+    }
 }
 
 // A name, a declarator in parentheses, or nothing; then what follows it.
@@ -515,7 +528,7 @@ fn direct(
     m: Model,
     s: Steps,
     room: u32,
-) -> Answer<Declared>
+) -> Declared
     requires held { Held c w.old d.old v.old }
     requires readable { Readable kinds.now numbers.now }
     requires starting { Starting s }
@@ -523,10 +536,7 @@ fn direct(
 {
     let at = c.at;
     if room == 0 {
-        return Err(Refusal {
-            reason: Reason::TooDeep,
-            at,
-        });
+        return refused(Reason::TooDeep, at, s);
     }
     let inner = room - 1;
     if is_name(kind_at(kinds, at)) {
@@ -536,13 +546,13 @@ fn direct(
     if !opens_declarator(kinds, numbers, w, c, m) {
         return suffixes(kinds, numbers, w, d, v, c, m, s, NO_NAME, inner);
     }
-    let (e, x) = declarator(kinds, numbers, w, d, v, c.moved(at + 1), m, s, inner)?;
+    let r = declarator(kinds, numbers, w, d, v, c.moved(at + 1), m, s, inner);
+    let Ok((e, name)) = r.answer else {
+        return r;
+    };
     let i = e.at;
     if kind_at(kinds, i) != CLOSE_PAREN {
-        return Err(Refusal {
-            reason: Reason::MissingMark,
-            at: i,
-        });
+        return refused(Reason::MissingMark, i, r.steps);
     }
     suffixes(
         kinds,
@@ -552,8 +562,8 @@ fn direct(
         v,
         e.moved(i + 1),
         m,
-        x.steps,
-        x.name,
+        r.steps,
+        name,
         inner,
     )
 }
@@ -571,7 +581,7 @@ fn suffixes(
     s: Steps,
     name: u32,
     room: u32,
-) -> Answer<Declared>
+) -> Declared
     requires held { Held c w.old d.old v.old }
     requires readable { Readable kinds.now numbers.now }
     requires waiting { Waiting s s.held }
@@ -583,17 +593,21 @@ fn suffixes(
         let at = here.at;
         let kind = kind_at(kinds, at);
         if kind != OPEN_BRACKET && kind != OPEN_PAREN {
-            return Ok((here, Declared { name, steps: t }));
+            return Declared {
+                answer: Ok((here, name)),
+                steps: t,
+            };
         }
         if t.is_full() {
-            return Err(Refusal {
-                reason: Reason::LimitPassed,
-                at: at + 1,
-            });
+            return refused(Reason::LimitPassed, at + 1, t);
         }
-        let (e, x) = suffix(kinds, numbers, w, d, v, here.moved(at + 1), m, kind, room)?;
-        t = t.push(x);
-        here = e;
+        match suffix(kinds, numbers, w, d, v, here.moved(at + 1), m, kind, room) {
+            Ok((e, x)) => {
+                t = t.push(x);
+                here = e;
+            }
+            Err(x) => return refused(x.reason, x.at, t),
+        }
     }
 }
 
@@ -718,9 +732,9 @@ pub fn declared_type(
     if is_plain_pointer(kinds, at) && NAME_LEVELS <= room {
         return pointer_type(kinds, numbers, w, d, v, c, b);
     }
-    let (e, x) = declarator(kinds, numbers, w, d, v, c, m, Steps::empty(), room)?;
-    let name = x.name;
-    let (f, ty) = apply(w, d, v, e, x.steps, b)?;
+    let r = declarator(kinds, numbers, w, d, v, c, m, Steps::empty(), room);
+    let (e, name) = r.answer?;
+    let (f, ty) = apply(w, d, v, e, r.steps, b)?;
     Ok((f, Typed { ty, name }))
 }
 

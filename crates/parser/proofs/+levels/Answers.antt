@@ -156,34 +156,34 @@ unfolding composite₁
 composite-returns t c = record { run = λ t₁ h. by (a-level _ _ _ _ c.if-room-eq0.false) (yes! _ _ _ (a-name c.kind_at.ensures c.is_name.ensures c.if-not-is_name.false-raw) (tagged _ _ _ _ _ c.name_at-name.ensures (step-on c.moved.ensures c.with_tag.ensures h))) }
 
 pub declarator-returns-then-room-eq0 : goal.declarator-returns-then-room-eq0
-declarator-returns-then-room-eq0 t c = stops _ (λ b h. by (no_declarator _ _ _ _ c.if-room-eq0.true) (no! h refl))
+declarator-returns-then-room-eq0 t c = stops _ (ap (λ x. x.answer) c.refused.ensures) (λ b h. by (no_declarator _ _ _ _ c.if-room-eq0.true) (no! h refl))
 
 pub declarator-stars-t-requires : goal.declarator-stars-t-requires
 declarator-stars-t-requires t c = omega (arith, c.requires.starting.waiting.apart)
 
-pub declarator-returns-in_err-e : goal.declarator-returns-in_err-e
-declarator-returns-in_err-e t c = stars-stop _ _ _ _ _ _ _ c.requires.starting c.if-room-eq0.false c.stars-t.ensures (c.branch-e.ensures ∙ ap result_from_control_flow c.in_err-e.is) c.from_residual.ensures.1
+pub declarator-returns-in-Err : goal.declarator-returns-in-Err
+declarator-returns-in-Err t c = stars-stop _ _ _ _ _ _ _ c.requires.starting c.if-room-eq0.false c.stars-t.ensures _ c.in-Err.is (ap (λ x. x.answer) c.refused-in-Err.ensures)
 
 pub declarator-overflow_sub-room : goal.declarator-overflow_sub-room
 declarator-overflow_sub-room t c = omega (arith, c.if-room-eq0.false)
 
-pub declarator-direct-requires : goal.declarator-direct-requires
-declarator-direct-requires t c = (omega (arith, c.decreases, c.if-room-eq0.false), (stars-held c.stars-t.ensures (c.branch-e.ensures ∙ ap result_from_control_flow c.in_ok-e.is) c.requires.held, (c.requires.readable, stars_starting c.requires.starting c.stars-t.ensures)))
+pub declarator-direct-r-requires : goal.declarator-direct-r-requires
+declarator-direct-r-requires t c = (omega (arith, c.decreases, c.if-room-eq0.false), (stars-held c.stars-t.ensures c.in-Ok.is c.requires.held, (c.requires.readable, stars_starting c.requires.starting c.stars-t.ensures)))
 
 pub declarator-returns-then-all-used : goal.declarator-returns-then-all-used
-declarator-returns-then-all-used t c = unstarred _ _ _ _ _ _ _ c.requires.starting c.if-room-eq0.false c.stars-t.ensures (c.branch-e.ensures ∙ ap result_from_control_flow c.in_ok-e.is) c.in_ok-f.ensures c.if-all-used.true
+declarator-returns-then-all-used t c = unstarred _ _ _ _ _ _ _ c.requires.starting c.if-room-eq0.false c.stars-t.ensures c.in-Ok.is c.direct-r.ensures c.if-all-used.true
 
-pub declarator-returns-in_err-f : goal.declarator-returns-in_err-f
-declarator-returns-in_err-f t c = direct-stop _ _ _ _ _ _ _ c.requires.starting c.if-room-eq0.false c.stars-t.ensures (c.branch-e.ensures ∙ ap result_from_control_flow c.in_ok-e.is) c.in_err-f.ensures c.from_residual-in_err-f.ensures.1
+pub declarator-returns-in_default : goal.declarator-returns-in_default
+declarator-returns-in_default t c = direct-stop _ _ _ _ _ _ _ c.requires.starting c.if-room-eq0.false c.stars-t.ensures c.in-Ok.is c.direct-r.ensures _ c.in_default.is
 
 pub declarator-overflow_sub-all : goal.declarator-overflow_sub-all
 declarator-overflow_sub-all t c = omega (arith, c.stars-t.ensures.holds.held)
 
-pub declarator-release_stars-steps-requires : goal.declarator-release_stars-steps-requires
-declarator-release_stars-steps-requires t c = stars_wait _ _ _ _ _ _ _ c.requires.starting c.if-room-eq0.false c.stars-t.ensures (c.branch-e.ensures ∙ ap result_from_control_flow c.in_ok-e.is) c.in_ok-f.ensures
+pub declarator-release_stars-requires : goal.declarator-release_stars-requires
+declarator-release_stars-requires t c = stars_wait _ _ _ _ _ _ _ c.requires.starting c.if-room-eq0.false c.stars-t.ensures c.in-Ok.is c.direct-r.ensures c.in-Ok-answer.is
 
 pub declarator-returns : goal.declarator-returns
-declarator-returns t c = direct-done _ _ _ _ _ _ _ c.requires.starting c.if-room-eq0.false c.stars-t.ensures (c.branch-e.ensures ∙ ap result_from_control_flow c.in_ok-e.is) c.in_ok-f.ensures _ c.release_stars-steps.ensures
+declarator-returns t c = direct-done _ _ _ _ _ _ _ c.requires.starting c.if-room-eq0.false c.stars-t.ensures c.in-Ok.is c.direct-r.ensures c.in-Ok-answer.is _ c.release_stars.ensures c.in-Ok-answer.is refl
 
 pub declarators-loop-e-init : goal.declarators-loop-e-init
 declarators-loop-e-init t c = begin c.requires.held
@@ -235,23 +235,23 @@ declared_type-pointer_type-requires t c = record { held = c.requires.held; reada
 pub declared_type-returns-then-room-ge-NAME_LEVELS-2 : goal.declared_type-returns-then-room-ge-NAME_LEVELS-2
 declared_type-returns-then-room-ge-NAME_LEVELS-2 t c = c.pointer_type.ensures.of _ _ c.if-room-ge-NAME_LEVELS-2.true
 
-pub declared_type-declarator-requires : goal.declared_type-declarator-requires
-declared_type-declarator-requires t c = (omega (arith, c.decreases), (c.requires.held, (c.requires.readable, starts-empty _ c.empty.ensures.kept)))
+pub declared_type-declarator-r-requires : goal.declared_type-declarator-r-requires
+declared_type-declarator-r-requires t c = (omega (arith, c.decreases), (c.requires.held, (c.requires.readable, starts-empty _ c.empty.ensures.kept)))
 
 pub declared_type-apply-requires : goal.declared_type-apply-requires
-declared_type-apply-requires t c = (declared_held c.in_ok-e.ensures c.requires.held, declared_few c.in_ok-e.ensures)
+declared_type-apply-requires t c = (declared_held c.declarator-r.ensures (c.branch-e.ensures ∙ ap result_from_control_flow c.in_ok-e.is) c.requires.held, declared_few c.declarator-r.ensures (c.branch-e.ensures ∙ ap result_from_control_flow c.in_ok-e.is))
 
 pub declared_type-returns : goal.declared_type-returns
-declared_type-returns t c = typed-done _ _ c.empty.ensures.kept c.in_ok-e.ensures c.in_ok-f.ensures
+declared_type-returns t c = typed-done _ _ c.empty.ensures.kept c.declarator-r.ensures (c.branch-e.ensures ∙ ap result_from_control_flow c.in_ok-e.is) c.in_ok-f.ensures
 
 pub declared_type-returns-in_err-f : goal.declared_type-returns-in_err-f
-declared_type-returns-in_err-f t c = typed-refused _ _ c.empty.ensures.kept c.in_ok-e.ensures _ _ c.in_err-f.ensures c.from_residual-in_err-f.ensures.1
+declared_type-returns-in_err-f t c = typed-refused _ _ c.empty.ensures.kept c.declarator-r.ensures (c.branch-e.ensures ∙ ap result_from_control_flow c.in_ok-e.is) _ _ c.in_err-f.ensures c.from_residual-in_err-f.ensures.1
 
 pub declared_type-returns-in_err-e : goal.declared_type-returns-in_err-e
-declared_type-returns-in_err-e t c = typed-stop _ _ c.empty.ensures.kept _ _ c.in_err-e.ensures c.from_residual.ensures.1
+declared_type-returns-in_err-e t c = typed-stop _ _ c.empty.ensures.kept c.declarator-r.ensures _ _ (c.branch-e.ensures ∙ ap result_from_control_flow c.in_err-e.is) c.from_residual.ensures.1
 
 pub direct-returns-then-room-eq0 : goal.direct-returns-then-room-eq0
-direct-returns-then-room-eq0 t c = stops _ (λ b h. by (no_direct _ _ _ _ c.if-room-eq0.true) (no! h refl))
+direct-returns-then-room-eq0 t c = stops _ (ap (λ x. x.answer) c.refused.ensures) (λ b h. by (no_direct _ _ _ _ c.if-room-eq0.true) (no! h refl))
 
 pub direct-overflow_sub-inner : goal.direct-overflow_sub-inner
 direct-overflow_sub-inner t c = omega (arith, c.if-room-eq0.false)
@@ -280,23 +280,23 @@ direct-returns-then-not-opens_declarator t c = by-nothing _ _ _ _ c.requires.sta
 pub direct-overflow_add-at-2 : goal.direct-overflow_add-at-2
 direct-overflow_add-at-2 t c = omega (arith, c.requires.readable.few, opens-there _ _ _ (sym (c.opens_declarator.ensures.of _ c.requires.held.encodes.words c.requires.held.encodes.index c.requires.held.encodes.counts) ∙ not-false _ c.if-not-opens_declarator.false-raw))
 
-pub direct-declarator-requires : goal.direct-declarator-requires
-direct-declarator-requires t c = (omega (arith, c.decreases, c.if-room-eq0.false), (held_at c.moved-2.ensures c.requires.held, (c.requires.readable, c.requires.starting)))
+pub direct-declarator-r-requires : goal.direct-declarator-r-requires
+direct-declarator-r-requires t c = (omega (arith, c.decreases, c.if-room-eq0.false), (held_at c.moved-2.ensures c.requires.held, (c.requires.readable, c.requires.starting)))
 
-pub direct-returns-in_err-e : goal.direct-returns-in_err-e
-direct-returns-in_err-e t c = inner-stop _ _ _ _ c.requires.starting c.if-room-eq0.false (no_name_lem c.kind_at.ensures c.is_name.ensures (ap not c.if-is_name.false)) c.opens_declarator.ensures (not-false _ c.if-not-opens_declarator.false-raw) c.moved-2.ensures c.in_err-e.ensures c.from_residual.ensures.1
+pub direct-returns-in_default : goal.direct-returns-in_default
+direct-returns-in_default t c = inner-stop _ _ _ _ c.requires.starting c.if-room-eq0.false (no_name_lem c.kind_at.ensures c.is_name.ensures (ap not c.if-is_name.false)) c.opens_declarator.ensures (not-false _ c.if-not-opens_declarator.false-raw) c.moved-2.ensures c.declarator-r.ensures _ c.in_default.is
 
 pub direct-returns-then-kind_at-ne-CLOSE_PAREN : goal.direct-returns-then-kind_at-ne-CLOSE_PAREN
-direct-returns-then-kind_at-ne-CLOSE_PAREN t c = not_closed_lem _ _ _ _ c.requires.starting c.if-room-eq0.false (no_name_lem c.kind_at.ensures c.is_name.ensures (ap not c.if-is_name.false)) c.opens_declarator.ensures (not-false _ c.if-not-opens_declarator.false-raw) c.moved-2.ensures c.in_ok-e.ensures c.kind_at-2.ensures c.if-kind_at-ne-CLOSE_PAREN.true
+direct-returns-then-kind_at-ne-CLOSE_PAREN t c = not_closed_lem _ _ _ _ c.requires.starting c.if-room-eq0.false (no_name_lem c.kind_at.ensures c.is_name.ensures (ap not c.if-is_name.false)) c.opens_declarator.ensures (not-false _ c.if-not-opens_declarator.false-raw) c.moved-2.ensures c.declarator-r.ensures c.in-Ok.is c.kind_at-2.ensures c.if-kind_at-ne-CLOSE_PAREN.true (ap (λ x. x.answer) c.refused-then-kind_at-ne-CLOSE_PAREN.ensures)
 
 pub direct-overflow_add-i : goal.direct-overflow_add-i
 direct-overflow_add-i t c = omega (arith, c.requires.readable.few, there c.kind_at-2.ensures c.if-kind_at-ne-CLOSE_PAREN.false)
 
 pub direct-suffixes-requires-2 : goal.direct-suffixes-requires-2
-direct-suffixes-requires-2 t c = (omega (arith, c.decreases, c.if-room-eq0.false), (held_at c.moved-3.ensures (declared_held c.in_ok-e.ensures (held_at c.moved-2.ensures c.requires.held)), (c.requires.readable, declared_waits c.in_ok-e.ensures)))
+direct-suffixes-requires-2 t c = (omega (arith, c.decreases, c.if-room-eq0.false), (held_at c.moved-3.ensures (declared_held c.declarator-r.ensures c.in-Ok.is (held_at c.moved-2.ensures c.requires.held)), (c.requires.readable, declared_waits c.declarator-r.ensures c.in-Ok.is)))
 
 pub direct-returns : goal.direct-returns
-direct-returns t c = closed _ _ _ _ c.requires.starting c.if-room-eq0.false (no_name_lem c.kind_at.ensures c.is_name.ensures (ap not c.if-is_name.false)) c.opens_declarator.ensures (not-false _ c.if-not-opens_declarator.false-raw) c.moved-2.ensures c.in_ok-e.ensures c.kind_at-2.ensures c.if-kind_at-ne-CLOSE_PAREN.false c.moved-3.ensures c.suffixes-2.ensures
+direct-returns t c = closed _ _ _ _ c.requires.starting c.if-room-eq0.false (no_name_lem c.kind_at.ensures c.is_name.ensures (ap not c.if-is_name.false)) c.opens_declarator.ensures (not-false _ c.if-not-opens_declarator.false-raw) c.moved-2.ensures c.declarator-r.ensures c.in-Ok.is c.kind_at-2.ensures c.if-kind_at-ne-CLOSE_PAREN.false c.moved-3.ensures c.suffixes-2.ensures
 
 pub list-loop-m-init : goal.list-loop-m-init
 list-loop-m-init t c = record { reading = begin c.requires.held; passed = omega arith; few = omega arith }
@@ -569,13 +569,13 @@ pub suffixes-loop-m-init : goal.suffixes-loop-m-init
 suffixes-loop-m-init t c = suffixes-begin c.requires.held c.requires.waiting
 
 pub suffixes-returns-then-kind-ne-OPEN_PAREN : goal.suffixes-returns-then-kind-ne-OPEN_PAREN
-suffixes-returns-then-kind-ne-OPEN_PAREN t c = ended c.loop-m.invariant c.kind_at-kind.ensures c.if-kind-ne-OPEN_BRACKET.true c.if-kind-ne-OPEN_PAREN.true
+suffixes-returns-then-kind-ne-OPEN_PAREN t c = ended c.loop-m.invariant c.kind_at-kind.ensures c.if-kind-ne-OPEN_BRACKET.true c.if-kind-ne-OPEN_PAREN.true refl
 
 pub suffixes-overflow_add-at : goal.suffixes-overflow_add-at
 suffixes-overflow_add-at t c = omega (arith, c.requires.readable.few, suffix-there c.loop-m.invariant c.kind_at-kind.ensures (elim c.else-kind-ne-OPEN_BRACKET.branch [ suffixes-else-kind-ne-OPEN_BRACKET-via-then-kind-ne-OPEN_BRACKET+else-kind-ne-OPEN_PAREN w ↦ inr w.if-kind-ne-OPEN_PAREN.false | suffixes-else-kind-ne-OPEN_BRACKET-via-else-kind-ne-OPEN_BRACKET w ↦ inl w.if-kind-ne-OPEN_BRACKET.false ]))
 
 pub suffixes-returns-then-is_full : goal.suffixes-returns-then-is_full
-suffixes-returns-then-is_full t c = full c.loop-m.invariant c.kind_at-kind.ensures (elim c.else-kind-ne-OPEN_BRACKET.branch [ suffixes-else-kind-ne-OPEN_BRACKET-via-then-kind-ne-OPEN_BRACKET+else-kind-ne-OPEN_PAREN w ↦ inr w.if-kind-ne-OPEN_PAREN.false | suffixes-else-kind-ne-OPEN_BRACKET-via-else-kind-ne-OPEN_BRACKET w ↦ inl w.if-kind-ne-OPEN_BRACKET.false ]) c.is_full.ensures c.if-is_full.true
+suffixes-returns-then-is_full t c = full c.loop-m.invariant c.kind_at-kind.ensures (elim c.else-kind-ne-OPEN_BRACKET.branch [ suffixes-else-kind-ne-OPEN_BRACKET-via-then-kind-ne-OPEN_BRACKET+else-kind-ne-OPEN_PAREN w ↦ inr w.if-kind-ne-OPEN_PAREN.false | suffixes-else-kind-ne-OPEN_BRACKET-via-else-kind-ne-OPEN_BRACKET w ↦ inl w.if-kind-ne-OPEN_BRACKET.false ]) c.is_full.ensures c.if-is_full.true (ap (λ x. x.answer) c.refused.ensures)
 
 pub suffixes-suffix-requires : goal.suffixes-suffix-requires
 suffixes-suffix-requires t c = (omega (arith, c.decreases), (held_at c.moved.ensures c.loop-m.invariant.held, c.requires.readable))
@@ -584,13 +584,13 @@ pub suffixes-push-t-requires : goal.suffixes-push-t-requires
 suffixes-push-t-requires t c = has_room _ c.is_full.ensures c.if-is_full.false
 
 pub suffixes-loop-m-smaller : goal.suffixes-loop-m-smaller
-suffixes-loop-m-smaller t c = suffixes-fewer c.loop-m.invariant c.kind_at-kind.ensures (elim c.else-kind-ne-OPEN_BRACKET.branch [ suffixes-else-kind-ne-OPEN_BRACKET-via-then-kind-ne-OPEN_BRACKET+else-kind-ne-OPEN_PAREN w ↦ inr w.if-kind-ne-OPEN_PAREN.false | suffixes-else-kind-ne-OPEN_BRACKET-via-else-kind-ne-OPEN_BRACKET w ↦ inl w.if-kind-ne-OPEN_BRACKET.false ]) c.is_full.ensures c.if-is_full.false c.moved.ensures _ c.in_ok-e.ensures
+suffixes-loop-m-smaller t c = suffixes-fewer c.loop-m.invariant c.kind_at-kind.ensures (elim c.else-kind-ne-OPEN_BRACKET.branch [ suffixes-else-kind-ne-OPEN_BRACKET-via-then-kind-ne-OPEN_BRACKET+else-kind-ne-OPEN_PAREN w ↦ inr w.if-kind-ne-OPEN_PAREN.false | suffixes-else-kind-ne-OPEN_BRACKET-via-else-kind-ne-OPEN_BRACKET w ↦ inl w.if-kind-ne-OPEN_BRACKET.false ]) c.is_full.ensures c.if-is_full.false c.moved.ensures _ c.in-Ok.ensures
 
 pub suffixes-loop-m-preserved : goal.suffixes-loop-m-preserved
-suffixes-loop-m-preserved t c = again c.loop-m.invariant c.kind_at-kind.ensures (elim c.else-kind-ne-OPEN_BRACKET.branch [ suffixes-else-kind-ne-OPEN_BRACKET-via-then-kind-ne-OPEN_BRACKET+else-kind-ne-OPEN_PAREN w ↦ inr w.if-kind-ne-OPEN_PAREN.false | suffixes-else-kind-ne-OPEN_BRACKET-via-else-kind-ne-OPEN_BRACKET w ↦ inl w.if-kind-ne-OPEN_BRACKET.false ]) c.is_full.ensures c.if-is_full.false c.moved.ensures _ c.in_ok-e.ensures c.push-t.ensures
+suffixes-loop-m-preserved t c = again c.loop-m.invariant c.kind_at-kind.ensures (elim c.else-kind-ne-OPEN_BRACKET.branch [ suffixes-else-kind-ne-OPEN_BRACKET-via-then-kind-ne-OPEN_BRACKET+else-kind-ne-OPEN_PAREN w ↦ inr w.if-kind-ne-OPEN_PAREN.false | suffixes-else-kind-ne-OPEN_BRACKET-via-else-kind-ne-OPEN_BRACKET w ↦ inl w.if-kind-ne-OPEN_BRACKET.false ]) c.is_full.ensures c.if-is_full.false c.moved.ensures _ c.in-Ok.ensures c.push-t.ensures
 
-pub suffixes-returns-in_err-e : goal.suffixes-returns-in_err-e
-suffixes-returns-in_err-e t c = suffix-stop c.loop-m.invariant c.kind_at-kind.ensures (elim c.else-kind-ne-OPEN_BRACKET.branch [ suffixes-else-kind-ne-OPEN_BRACKET-via-then-kind-ne-OPEN_BRACKET+else-kind-ne-OPEN_PAREN w ↦ inr w.if-kind-ne-OPEN_PAREN.false | suffixes-else-kind-ne-OPEN_BRACKET-via-else-kind-ne-OPEN_BRACKET w ↦ inl w.if-kind-ne-OPEN_BRACKET.false ]) c.is_full.ensures c.if-is_full.false c.moved.ensures _ c.in_err-e.ensures c.from_residual.ensures.1
+pub suffixes-returns-in-Err : goal.suffixes-returns-in-Err
+suffixes-returns-in-Err t c = suffix-stop c.loop-m.invariant c.kind_at-kind.ensures (elim c.else-kind-ne-OPEN_BRACKET.branch [ suffixes-else-kind-ne-OPEN_BRACKET-via-then-kind-ne-OPEN_BRACKET+else-kind-ne-OPEN_PAREN w ↦ inr w.if-kind-ne-OPEN_PAREN.false | suffixes-else-kind-ne-OPEN_BRACKET-via-else-kind-ne-OPEN_BRACKET w ↦ inl w.if-kind-ne-OPEN_BRACKET.false ]) c.is_full.ensures c.if-is_full.false c.moved.ensures _ c.in-Err.ensures (ap (λ x. x.answer) c.refused-in-Err.ensures)
 
 pub tag_type-enumeration-requires : goal.tag_type-enumeration-requires
 tag_type-enumeration-requires t c = record { held = c.requires.held; names_fit = c.requires.readable.names }
