@@ -1,13 +1,14 @@
 -- The definition's readers are made of the pieces that the code has functions for; and declarations end. Assumes nothing.
-use mathlib.Core.Path.{◌≡◌, refl, ap, ◌∙◌}
+use mathlib.Core.Path.{◌≡◌, refl, sym, ap, ◌∙◌}
 use mathlib.Core.Bool.{true, false, ◌||◌}
 use mathlib.Core.Logic.{◌⊎◌, inl, inr}
 use Rattle.std.proofs.lemmas.Bool.{ne_eqb}
 use mathlib.Core.List.{List}
-use Prim.Native.Nat.{ℕ, suc, ◌-◌, ◌≤◌, ◌<◌}
+use Prim.Native.Nat.{ℕ, suc, ◌≤◌, ◌<◌}
 use native.Mathlib.Omega.{arith}
 use lib.Dec.{eqb}
 use lib.IntN.{ℤ}
+use lib.ListN.{get_or}
 use borrow.Author.Tests.{eqb-true}
 use Rattle.definition.specs.Answer.{Answer, got, refused, ◌>>=◌}
 use Rattle.definition.specs.Refusal.{missing_name}
@@ -37,13 +38,14 @@ use Rattle.parser.specs.Pieces.{typed_from}
 use Rattle.parser.proofs.Made.{joined}
 use Rattle.declarations.specs.Pieces.{after_base, alone_from}
 
--- a declaration's type stands alone: by its kind, a semicolon's or the end's
-pub ends_type : {k : ℕ} → (k ≡ semicolon) ⊎ (k ≡ end) → (eqb k semicolon || eqb k end) ≡ true
-ends_type (inl e) = rw e refl
-ends_type (inr e) = rw e refl
+-- a declaration's type stands alone, or not: by the token after it
+module _ {ks : List ℕ} {i k : ℕ} (p : Peek ks i k) where
+  pub ends_type : (k ≡ semicolon) ⊎ ((k ≡ semicolon → ⊥) × (k ≡ end)) → (eqb (get_or ks i 0) semicolon || eqb (get_or ks i 0) end) ≡ true
+  ends_type (inl e) = rw (sym p.is, e)
+  ends_type (inr e) = rw (sym p.is, e.1)
 
-pub goes_on : {k : ℕ} → (k ≡ semicolon → ⊥) → (k ≡ end → ⊥) → (eqb k semicolon || eqb k end) ≡ false
-goes_on {k} p q = rw (ne_eqb k semicolon p, ne_eqb k end q) refl
+  pub goes_on : (k ≡ semicolon → ⊥) → (k ≡ end → ⊥) → (eqb (get_or ks i 0) semicolon || eqb (get_or ks i 0) end) ≡ false
+  goes_on n q = rw (sym p.is, ne_eqb k semicolon n, ne_eqb k end q)
 
 -- after an initialiser that was passed over
 pub initialised : {Q : Answer State → Type 0} (ts : Tokens) (s s' : State) (c : Storage) (w b at : ℕ) → initialiser ts s ≡ s'

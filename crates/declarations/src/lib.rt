@@ -173,8 +173,7 @@ pub fn declarations(
             here = here.moved(at + 1);
         } else {
             let e = declaration(kinds, numbers, w, d, v, here, m)?;
-            let f = separated(kinds, e)?;
-            here = f;
+            here = separated(kinds, e)?;
         }
     }
 }

@@ -1,4 +1,4 @@
-#![tactic(auto)]
+#![tactic(auto, using(table::proofs::Shown::held_next))]
 // Enumerations, after the word `enum`.
 ghost use Rattle.std.specs.Prelude.{◌≤◌};
 ghost use Rattle.definition.specs.Enumeration.{bare_enum, close_enum, enum_body, after_tag};

@@ -1,11 +1,15 @@
 -- The steps of the two ends. Assumes nothing.
 use mathlib.Core.Path.{◌≡◌, refl, subst}
-use mathlib.Core.Bool.{Bool, true, false}
+use mathlib.Core.Bool.{Bool, true, false, ◌&&◌, not}
+use mathlib.Core.Logic.{◌⊎◌, inl, inr}
 use mathlib.Core.List.{List}
 use Prim.Native.Nat.{ℕ, zero, suc}
 use native.Mathlib.Omega.{arith}
+use lib.Dec.{eqb}
 use lib.IntN.{ℤ}
 use lib.ListN.{drop}
+use borrow.Author.Tests.{ne_eqb}
+use Rattle.definition.specs.Name.{no_name}
 use Rattle.definition.specs.Model.{Model}
 use Rattle.definition.specs.Table.{Table, Member, wide, with_members, mark_of}
 use Rattle.definition.specs.Layout.{layout}
@@ -32,6 +36,11 @@ same_width (suc n) = refl
 pub pushed : {c : Cursor} {w d w' d' : List ℕ} {v v' : List ℤ} {r : Reply Nothing} (first type name n at : ℕ)
     → Moves (field_pushed first type name (width_in n) at) c w d v r w' d' v' → Moves (field_pushed first type name (Parts.width_in n) at) c w d v r w' d' v'
 pushed {c} {w} {d} {w'} {d'} {v} {v'} {r} first type name n at h = subst (λ k. Moves (field_pushed first type name k at) c w d v r w' d' v') (same_width n) h
+
+-- a name, or none that is asked for
+pub named : {b : Bool} {n : ℕ} → ((b ≡ false) × (n ≡ no_name → ⊥)) ⊎ (b ≡ true) → (not b && eqb n no_name) ≡ false
+named (inl e) = rw (e.0, ne_eqb _ _ e.1)
+named (inr e) = rw e
 
 -- the note for the conditions of demand 3 stands in no slice
 noted-on : {c : Cursor} {w d : List ℕ} {v : List ℤ} (b : Bool) (t : Table) (es : List Member) → Encodes (with_members t es) c w d v → Encodes (with_members (noted b t) es) c w d v

@@ -1,24 +1,14 @@
-use borrow.Author.Rules.{rules}
-use mathlib.Core.Path.{refl, ap, ◌∙◌}
+use mathlib.Core.Path.{refl}
 use Rattle.constants.specs.Reading.{tokens}
 use Rattle.table.specs.Reply.{reply_alone}
 use Rattle.table.proofs.Branch.{by}
-use Rattle.table.proofs.Shown.{call, refuse, held_on, next, exit, held_next}
+use Rattle.table.proofs.Shown.{next, exit, held_next}
 use Rattle.definition_laws.proofs.Progress.{specifiers-on, levels-on}
 use Rattle.definition_laws.proofs.TableProgress.{base_type-stays}
 use Rattle.parser.proofs.Goes.{on, stays}
 use Rattle.parser.proofs.Composites.{enough}
 use Rattle.declarations.proofs.Made.{declaration-made}
 use Rattle.declarations.proofs.declaration.Goals as goal
-
-pub specifiers-requires : goal.specifiers-requires
-specifiers-requires c = record { held = c.requires.held; readable = c.requires.readable }
-
-pub base_type-requires : goal.base_type-requires
-base_type-requires c = held_next c.in_ok-e.ensures c.requires.held
-
-pub after_base-requires : goal.after_base-requires
-after_base-requires c = record { held = held_next c.in_ok-f.ensures (held_next c.in_ok-e.ensures c.requires.held); readable = c.requires.readable }
 
 pub returns : goal.returns
 returns c = let a = held_next c.in_ok-e.ensures c.requires.held in

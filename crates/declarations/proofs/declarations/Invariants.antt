@@ -1,16 +1,8 @@
-use borrow.Author.Rules.{rules}
-use native.Mathlib.Omega.{arith}
-use native.Mathlib.Nat.{lt_of_lt_of_le}
-use mathlib.Core.Path.{sym, ap, ◌∙◌}
 use Rattle.constants.specs.Reading.{tokens}
-use Rattle.table.proofs.Rounds.{starts, starts-at, turn}
-use Rattle.table.proofs.Shown.{got!, call, fail, held_at, held_on}
-use Rattle.table.proofs.Steps.{there, is+, is-}
 use Rattle.definition.specs.Token.{left}
 use Rattle.definition.specs.Reader.{declarations_from}
 use Rattle.model.specs.Meaning.{model}
-use Rattle.parser.proofs.Lists.{Reading, begin, enough, fewer, fewer-past, here-still}
-use Rattle.declarations.proofs.Made.{took}
+use Rattle.parser.proofs.Lists.{Reading}
 use Rattle.declarations.proofs.declarations.Given as goal
 
 abbrev pub invariant-loop-m : goal.invariant-loop-m

@@ -1,9 +1,7 @@
-use borrow.Author.Rules.{rules}
-use mathlib.Core.Path.{refl, ap}
+use mathlib.Core.Path.{refl}
 use Rattle.table.specs.Reply.{reply_alone}
 use Rattle.table.proofs.Branch.{by, eq+, eq-}
-use Rattle.table.proofs.Shown.{no!, call, refuse, held_at, held_on, step-on, next, exit, held_next}
-use Rattle.parser.specs.Answers.{typed}
+use Rattle.table.proofs.Shown.{no!, held_at, step-on, next, exit, held_next}
 use Rattle.declarations.proofs.Made.{declarator-made, initialised}
 use Rattle.declarations.proofs.init_declarator.Goals as goal
 

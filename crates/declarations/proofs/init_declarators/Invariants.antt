@@ -1,18 +1,8 @@
-use borrow.Author.Rules.{rules}
-use native.Mathlib.Omega.{arith}
-use native.Mathlib.Nat.{lt_of_lt_of_le}
-use mathlib.Core.Path.{sym, ap, ◌∙◌}
 use Rattle.constants.specs.Reading.{tokens}
-use Rattle.table.proofs.Rounds.{starts-at, turn}
-use Rattle.table.proofs.Shown.{got!, call, fail, held_at, held_on}
-use Rattle.table.proofs.Steps.{there, is+, is-}
 use Rattle.definition.specs.Token.{left}
-use Rattle.definition.specs.Reader.{init_declarators}
-use Rattle.definition_laws.proofs.Progress.{init_declarator-on}
 use Rattle.model.specs.Meaning.{model}
 use Rattle.encoding.specs.Storage.{storage}
-use Rattle.parser.proofs.Goes.{moves-on}
-use Rattle.parser.proofs.Lists.{Reading, begin, fewer}
+use Rattle.parser.proofs.Lists.{Reading}
 use Rattle.declarations.specs.Pieces.{declarators_in}
 use Rattle.declarations.proofs.init_declarators.Given as goal
 

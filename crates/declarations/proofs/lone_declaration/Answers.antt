@@ -1,8 +1,7 @@
-use borrow.Author.Rules.{rules}
-use mathlib.Core.Path.{refl, ap}
+use mathlib.Core.Path.{refl}
 use Rattle.constants.specs.Reading.{tokens}
 use Rattle.table.specs.Reply.{reply_alone}
-use Rattle.table.proofs.Shown.{call, fail, next, exit}
+use Rattle.table.proofs.Shown.{call, next, exit}
 use Rattle.definition.specs.Reader.{nothing_more}
 use Rattle.model.specs.Meaning.{model}
 use Rattle.declarations.proofs.Made.{then-on}

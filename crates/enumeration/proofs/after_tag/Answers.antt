@@ -1,17 +1,12 @@
-use borrow.Author.Rules.{rules}
-use native.Mathlib.Omega.{arith}
 use mathlib.Core.Path.{refl}
 use Rattle.definition.specs.Enumeration.{after_tag}
 use Rattle.table.proofs.Shown.{no!, step-on, held_at}
-use Rattle.table.proofs.Steps.{there, is+, is-}
+use Rattle.table.proofs.Steps.{is+, is-}
 use Rattle.enumeration.proofs.after_tag.Goals as goal
 
 pub returns-then-kind-eq-COLON : goal.returns-then-kind-eq-COLON
 unfolding after_tag
 returns-then-kind-eq-COLON c = record { run = λ t h. is+ _ _ c.kind_at-kind.ensures c.if-kind-eq-COLON.true (no! h refl) }
-
-pub overflow_add-i : goal.overflow_add-i
-overflow_add-i c = omega (arith, there c.kind_at-kind.ensures c.if-kind-eq-OPEN_BRACE.true)
 
 pub enum_body-requires : goal.enum_body-requires
 enum_body-requires c = record { held = held_at c.moved.ensures c.requires.held; names_fit = c.requires.names_fit }

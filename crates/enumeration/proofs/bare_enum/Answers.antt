@@ -1,4 +1,3 @@
-use borrow.Author.Rules.{rules}
 use mathlib.Core.Path.{refl}
 use Rattle.definition.specs.Table.{used}
 use Rattle.definition.specs.Enumeration.{bare_enum}

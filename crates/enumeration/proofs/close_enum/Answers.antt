@@ -1,9 +1,8 @@
-use borrow.Author.Rules.{rules}
-use mathlib.Core.Path.{refl, ap}
+use mathlib.Core.Path.{refl}
 use Rattle.definition.specs.Enumeration.{close_enum, define_enum}
 use Rattle.table.specs.Reply.{reply}
 use Rattle.table.proofs.Branch.{eq+, eq-}
-use Rattle.table.proofs.Shown.{got!, call, fail, held_on, next, exit, held_next}
+use Rattle.table.proofs.Shown.{got!, next, exit}
 use Rattle.enumeration.proofs.close_enum.Goals as goal
 
 pub returns-then-name-eq-NO_NAME : goal.returns-then-name-eq-NO_NAME
@@ -13,9 +12,6 @@ returns-then-name-eq-NO_NAME c = record { run = λ t h. eq+ _ _ _ _ c.if-name-eq
 pub returns-in_err-e : goal.returns-in_err-e
 unfolding close_enum
 returns-in_err-e c = record { run = λ t h. eq- _ _ _ _ c.if-name-eq-NO_NAME.false (exit reply _ (c.in_err-e.ensures.run t h) c.from_residual.ensures.1 refl) }
-
-pub define_enum-requires : goal.define_enum-requires
-define_enum-requires c = held_next c.in_ok-e.ensures c.requires.held
 
 pub returns : goal.returns
 unfolding close_enum define_enum

@@ -1,18 +1,14 @@
-use borrow.Author.Rules.{rules}
 use native.Mathlib.Omega.{arith}
-use mathlib.Core.Path.{refl, ap}
+use mathlib.Core.Path.{refl}
 use Rattle.definition.specs.Model.{lp64}
 use Rattle.definition.specs.Enumeration.{enum_body}
 use Rattle.table.specs.Reply.{reply}
-use Rattle.table.proofs.Shown.{call, refuse, held_on, next, exit, held_next}
+use Rattle.table.proofs.Shown.{next, exit, held_next}
 use Rattle.enumeration.proofs.Enums.{more-values, closes}
 use Rattle.enumeration.proofs.enum_body.Goals as goal
 
 pub overflow_sub-count : goal.overflow_sub-count
 overflow_sub-count c = omega (arith, more-values _ lp64 _ (c.in_ok-e.ensures.model lp64) c.requires.held refl)
-
-pub overflow_cast-first : goal.overflow_cast-first
-overflow_cast-first c = omega (arith, c.requires.held.room.values)
 
 pub overflow_cast-count : goal.overflow_cast-count
 overflow_cast-count c = omega (arith, (held_next (c.in_ok-e.ensures.model lp64) c.requires.held).room.values)

@@ -1,4 +1,3 @@
-use borrow.Author.Rules.{rules}
 use native.Mathlib.Omega.{arith}
 use mathlib.Core.Path.{refl, ap}
 use mathlib.Core.Bool.{not}
@@ -11,9 +10,6 @@ use Rattle.enumeration.proofs.enumeration.Goals as goal
 
 pub returns-then-room-eq0 : goal.returns-then-room-eq0
 returns-then-room-eq0 c = record { run = λ t h. by (no_level _ _ _ c.if-room-eq0.true) (no! h refl) }
-
-pub name_at-name-requires : goal.name_at-name-requires
-name_at-name-requires c = c.requires.names_fit.fit _ (a-name c.kind_at.ensures c.is_name.ensures (ap not c.if-is_name.true))
 
 pub overflow_add-at : goal.overflow_add-at
 overflow_add-at c = omega (arith, inside c.kind_at.ensures c.is_name.ensures (ap not c.if-is_name.true))

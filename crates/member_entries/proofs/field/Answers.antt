@@ -1,12 +1,11 @@
 use mathlib.Core.Path.{refl}
 use Rattle.table.specs.Reply.{reply_alone}
 use Rattle.definition.specs.Model.{lp64}
-use Rattle.table.proofs.Branch.{eq+, eq-}
+use Rattle.table.proofs.Branch.{eq+, nay! }
 use Rattle.table.proofs.Shown.{no!, next, exit, held_next}
 use Rattle.member_entries.specs.Pieces.{field}
-use Rattle.member_entries.proofs.Ends.{pushed}
+use Rattle.member_entries.proofs.Ends.{named, pushed}
 use Rattle.member_entries.proofs.field.Goals as goal
-use Rattle.member_entries.proofs.field.Goals.{else-not-unnamed-via-then-not-unnamed+else-name-eq-NO_NAME, else-not-unnamed-via-else-not-unnamed}
 
 pub returns-in_err-e : goal.returns-in_err-e
 unfolding field
@@ -21,11 +20,4 @@ push_field-requires c = (held_next (c.in_ok-e.ensures.with lp64 _) c.requires.0,
 
 pub returns : goal.returns
 unfolding field
-returns c = λ m. record {
-  run = λ t h. next _ ((c.in_ok-e.ensures.with m _).run t h) (λ t₁ h₁.
-      let p = (pushed _ _ _ c.in_ok-e.width _ c.push_field.ensures).run t₁ h₁ in
-      elim c.else-not-unnamed.branch [
-        | else-not-unnamed-via-then-not-unnamed+else-name-eq-NO_NAME w ↦ rw w.if-not-unnamed.true (eq- _ _ _ _ w.if-name-eq-NO_NAME.false p)
-        | else-not-unnamed-via-else-not-unnamed w ↦ rw w.if-not-unnamed.false p
-      ]);
-}
+returns c = λ m. record { run = λ t h. next _ ((c.in_ok-e.ensures.with m _).run t h) (λ t₁ h₁. nay! _ _ _ (named c.else-not-unnamed.either) ((pushed _ _ _ c.in_ok-e.width _ c.push_field.ensures).run t₁ h₁)) }
