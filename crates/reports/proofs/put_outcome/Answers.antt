@@ -1,5 +1,3 @@
-use borrow.Author.Rules.{rules}
-use Prim.Native.Nat.{◌-◌}
 use Rattle.reports.proofs.Outcomes.{table_of, accepted-printed, rejected-printed}
 use Rattle.reports.proofs.put_outcome.Goals as goal
 
