@@ -3,6 +3,7 @@ use mathlib.Core.Path.{◌≡◌, refl, ap, ◌∙◌}
 use mathlib.Core.Bool.{Bool, true, false}
 use mathlib.Core.List.{List, [], ◌∷◌, ◌++◌}
 use mathlib.Core.Option.{Option, none, some}
+use Rattle.std.specs.Prelude.{Option as CodeOption, Some, None}
 use Prim.Native.Nat.{ℕ, zero, suc, ◌+◌, ◌-◌, ◌/◌, ◌%◌, ◌^◌, ◌<◌, ◌≤◌}
 use native.Mathlib.Omega.{arith}
 use lib.Dec.{eqb, ltb}
@@ -11,13 +12,14 @@ use borrow.Author.Tests.{eq-eqb, ne_eqb, eqb-true, eqb-false}
 use Rattle.definition.specs.Text.{Bytes, bytes}
 use Rattle.definition.specs.Row.{Row, void, int, float, bool, pointer, array, composite, enumeration, function, typedef, qualified, kind_of, target_of, flags_of, row_name, extent_of}
 use Rattle.definition.specs.Types.{width_number}
-use Rattle.definition.specs.Listing.{decimal, dash, name_word, size_word, letters, kind_word, details}
+use Rattle.definition.specs.Listing.{decimal, dash, or_dash, name_word, size_word, letters, kind_word, details}
 use Rattle.words.specs.Meaning.{qualifiers_in}
 use Rattle.words.proofs.Uses.{bits-qualifiers}
 use Rattle.size_align.specs.declared.Size.TheVariants.{Known, Big}
-use Rattle.size_align.specs.Measure.{told_below, told}
+use Rattle.size_align.specs.Measure.{told_below, told, align}
 use Rattle.table.specs.declared.Numbers.{Numbers}
 use Rattle.table.specs.Reply.{numbers}
+use Rattle.printing.specs.Words.{or_dash_of}
 use Rattle.line_format.specs.Parts.{width_of, size_bytes, chosen, kind_bytes, details_of}
 
 -- widths
@@ -34,6 +36,12 @@ size_word_lem (some s) = by (ltb s (2 ^ 64))
     by : (b : Bool) → size_bytes (elim b [ true ↦ Known s | false ↦ Big ]) ≡ elim b [ true ↦ decimal s | false ↦ bytes "big" ]
     by true = refl
     by false = refl
+
+-- alignments
+pub align_word : (a : CodeOption ℕ) → or_dash_of a ≡ or_dash (align a)
+unfolding or_dash
+align_word (Some a) = refl
+align_word None = refl
 
 -- rows
 pub kind-word : (r : Row) → kind_bytes (kind_of r) ≡ kind_word r

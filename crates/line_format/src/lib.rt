@@ -18,7 +18,7 @@ use encoding::row_kinds::{
 };
 use encoding::storage::Storage;
 use printing::{Name, Writer};
-use size_align::{Align, Size};
+use size_align::Size;
 use table::{Declaration, Numbers};
 
 // The numbers of a member that its line tells; the width is 0 for a plain member, else 1 more than the bit-field's.
@@ -132,15 +132,6 @@ fn next_size(out: &mut Writer<'_>, size: Size)
     }
 }
 
-fn next_align(out: &mut Writer<'_>, a: Option<u64>)
-    ensures { Writes (space ∷ or_dash (align a)) out.old out.new }
-{
-    match a {
-        Some(x) => out.next(x),
-        None => out.next("-"),
-    }
-}
-
 // ---- lines of rows
 
 // A type line up to the alignment.
@@ -151,7 +142,7 @@ pub fn put_head(out: &mut Writer<'_>, row: u32, kind: u32, size: Size, a: Option
     out.next(row as u64);
     out.next(kind_word(kind));
     next_size(out, size);
-    next_align(out, a);
+    out.next(a);
 }
 
 // What follows the alignment.
