@@ -6,11 +6,11 @@ use Rattle.table.specs.declared.Numbers.{Numbers}
 use Rattle.table.specs.Held.{InWords, InWides}
 use Rattle.table.specs.Reply.{numbers}
 use Rattle.printing.specs.declared.Writer.{Writer}
-use Rattle.printing.specs.Written.{Writes}
+use Rattle.printing.specs.Written.{Keeps, Writes}
 
--- The bytes that f says of any e of which `is` holds; the writer still holds its buffer.
+-- The bytes that f says of any e of which `is` holds; the writer keeps its buffer.
 pub record WritesAs {E : Type 0} (is : E → Type 0) (f : E → Bytes) (o o' : Writer) : Type 0 where
-  pub same : o'.buffer.ghost_name ≡ o.buffer.ghost_name
+  pub kept : Keeps o o'
   pub of : (e : E) → is e → Writes (f e) o o'
 
 -- The numbers are those of row n.

@@ -1,11 +1,10 @@
-#![tactic(auto)]
+#![tactic(auto, using(printing::proofs::Writing::keeps_written))]
 // The lines of a listing, for whatever table the lent slices hold: one function for each kind of line. The slices are passed one by one: in a struct their
 // lengths would not be constants to the compiler, and each read that `size_of` makes would be tested.
 ghost use Rattle.std.specs.Prelude.{◌≡◌, length};
 ghost use Rattle.definition.specs.Table.{row_at};
 ghost use Rattle.definition.specs.Listing.{type_line, member_line, value_line, param_line, decl_line};
 ghost use Rattle.table.specs.Held.{member_at, value_at, parameter_at, declaration_at, InWords, InWides, InSigneds};
-ghost use Rattle.table.specs.Reply.{numbers};
 ghost use Rattle.model.specs.Meaning.{model};
 ghost use Rattle.lines.specs.Lines.{NumbersAre, WritesAs};
 
@@ -70,7 +69,7 @@ pub fn row_numbers(w: &[u32], d: &[u64], n: u32) -> Numbers
     }
 }
 
-// The line of a row with these numbers; `members` is how many members the table has.
+// `members` is how many members the table has.
 pub fn type_line(
     out: &mut Writer<'_>,
     text: &[u8],
@@ -79,10 +78,10 @@ pub fn type_line(
     d: &[u64],
     members: usize,
     row: u32,
-    x: Numbers,
 )
-    ensures { WritesAs (λ t. InWords t w.now × InWides t d.now × (members ≡ length t.members) × (x ≡ numbers (row_at t row))) (λ t. type_line text.now (model m) t row (row_at t row)) out.old out.new }
+    ensures { WritesAs (λ t. InWords t w.now × InWides t d.now × (members ≡ length t.members)) (λ t. type_line text.now (model m) t row (row_at t row)) out.old out.new }
 {
+    let x = row_numbers(w, d, row);
     let size = size_of(m, w, d, row);
     let align = align_of(m, w, d, members, row);
     put_head(out, row, x.kind, size, align);

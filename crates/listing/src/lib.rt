@@ -5,7 +5,6 @@ ghost use Rattle.definition.specs.Table.{row_at};
 ghost use Rattle.definition.specs.Lent.{flat};
 ghost use Rattle.definition.specs.Listing.{sub_lines, type_lines, decl_line, listing};
 ghost use Rattle.table.specs.Held.{Stands, Room};
-ghost use Rattle.table.specs.Reply.{numbers};
 ghost use Rattle.model.specs.Meaning.{model};
 ghost use Rattle.lines.specs.Lines.{WritesAs};
 ghost use Rattle.listing.specs.Listed.{HoldDeclarations, WritesEntries};
@@ -41,7 +40,6 @@ fn entry_lines<R: Fn(usize) -> u32, L: Fn(&mut Writer<'_>, usize)>(
     }
 }
 
-// The lines under a row with these numbers.
 fn sub_lines(
     out: &mut Writer<'_>,
     text: &[u8],
@@ -50,10 +48,10 @@ fn sub_lines(
     v: &[i64],
     c: Cursor,
     row: u32,
-    x: Numbers,
 )
-    ensures { WritesAs (λ t. Stands t c w.now d.now v.now × (x ≡ numbers (row_at t row))) (λ t. sub_lines text.now t row (row_at t row)) out.old out.new }
+    ensures { WritesAs (λ t. Stands t c w.now d.now v.now) (λ t. sub_lines text.now t row (row_at t row)) out.old out.new }
 {
+    let x = row_numbers(w, d, row);
     match x.kind {
         STRUCT_KIND | UNION_KIND => entry_lines(
             out,
@@ -99,9 +97,8 @@ fn type_lines(
 {
     for i in 0..c.rows {
         let row = i as u32;
-        let x = row_numbers(w, d, row);
-        type_line(out, text, m, w, d, c.members, row, x);
-        sub_lines(out, text, w, d, v, c, row, x);
+        type_line(out, text, m, w, d, c.members, row);
+        sub_lines(out, text, w, d, v, c, row);
     }
 }
 

@@ -12,7 +12,7 @@ use Rattle.definition.specs.Text.{Bytes}
 use Rattle.definition.specs.Byte.{space, line_feed}
 use Rattle.definition.specs.Listing.{parted, line}
 use Rattle.printing.specs.declared.Writer.{Writer}
-use Rattle.printing.specs.Written.{Buffer, buffer, most_counted, counted, put, write, Wrote, Writes, words, WritesWords}
+use Rattle.printing.specs.Written.{Buffer, buffer, most_counted, counted, put, write, Wrote, Keeps, Writes, words, WritesWords}
 
 write-append : (b : Buffer) (xs ys : Bytes) → write b (xs ++ ys) ≡ write (write b xs) ys
 unfolding write
@@ -66,6 +66,16 @@ module _ {xs : Bytes} {o o₁ : Writer} (p : Writes xs o o₁) where
 
   pub then : {ys : Bytes} {o₂ : Writer} → Writes ys o₁ o₂ → Writes (xs ++ ys) o o₂
   then q = record { same = q.same ∙ p.same; wrote = then_there p.wrote q.wrote }
+
+-- what a write keeps
+pub keeps_still : {o : Writer} → Keeps o o
+keeps_still = record { same = refl; long = refl }
+
+pub keeps_written : {xs : Bytes} {o o₁ : Writer} → Writes xs o o₁ → Keeps o o₁
+keeps_written p = record { same = p.same; long = same_length p.wrote }
+
+pub keeps_both : {o o₁ o₂ : Writer} → Keeps o o₁ → Keeps o₁ o₂ → Keeps o o₂
+keeps_both p q = record { same = q.same ∙ p.same; long = q.long ∙ p.long }
 
 -- ---- lines
 
