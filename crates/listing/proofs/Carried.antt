@@ -9,7 +9,8 @@ use Rattle.definition.specs.Lent.{flat}
 use Rattle.lemmas.proofs.Branch.{yes, nay}
 use Rattle.lemmas.proofs.Lists.{drop-next}
 use Rattle.printing.specs.declared.Writer.{Writer}
-use Rattle.printing.specs.Written.{Writes}
+use Rattle.printing.specs.Written.{Keeps, Writes}
+use Rattle.printing.proofs.Writing.{keeps_still, keeps_both}
 use Rattle.listing.specs.Listed.{carried, WritesEntries}
 use Rattle.listing.proofs.Under.{Going, starts, done, passes, goes_on}
 
@@ -67,26 +68,26 @@ module _ {E : Type 0} (row : E → ℕ) (f : E → Bytes) (n : ℕ) (es : List E
 
 -- the loop over them
 pub record Under (row_of : ℕ → ℕ → Type 0) (line : MutBor Writer → ℕ → MutBor Writer → Type 0) (n count first end : ℕ) (o : Writer) (left i : ℕ) (p : Writer) : Type 0 where
-  pub same : ((j : ℕ) (q r : MutBor Writer) → line q j r → r.now.buffer.ghost_name ≡ q.now.buffer.ghost_name) → p.buffer.ghost_name ≡ o.buffer.ghost_name
+  pub kept : ((j : ℕ) (q r : MutBor Writer) → line q j r → Keeps q.now r.now) → Keeps o p
   pub of : (rows : ℕ → ℕ) (lines : ℕ → Bytes) → ((j k : ℕ) → row_of j k → k ≡ rows j) → ((j : ℕ) (q r : MutBor Writer) → line q j r → Writes (lines j) q.now r.now)
       → Going (carried rows lines n count first end) o (carried rows lines n left i end) p
 
 module _ {row_of : ℕ → ℕ → Type 0} {line : MutBor Writer → ℕ → MutBor Writer → Type 0} {n count first end : ℕ} {o : Writer} where
   pub begins : Under row_of line n count first end o count first o
-  begins = record { same = λ h. refl; of = λ rows lines p q. starts }
+  begins = record { kept = λ h. keeps_still; of = λ rows lines p q. starts }
 
   module _ {left i : ℕ} {p : Writer} (g : Under row_of line n count first end o left i p) where
     pub enough : left ≡ 0 → WritesEntries row_of line n count first end o p
-    enough z = record { same = g.same; of = λ rows lines u v. done (g.of rows lines u v) (none_wanted rows lines n left i end z) }
+    enough z = record { kept = g.kept; of = λ rows lines u v. done (g.of rows lines u v) (none_wanted rows lines n left i end z) }
 
     pub ended : end ≤ i → WritesEntries row_of line n count first end o p
-    ended h = record { same = g.same; of = λ rows lines u v. done (g.of rows lines u v) (at-end rows lines n left i end h) }
+    ended h = record { kept = g.kept; of = λ rows lines u v. done (g.of rows lines u v) (at-end rows lines n left i end h) }
 
     pub skipped : {k : ℕ} → i < end → row_of i k → (k ≡ n → ⊥) → Under row_of line n count first end o left (i + 1) p
-    skipped h r ne = record { same = g.same; of = λ rows lines u v. passes (g.of rows lines u v) (passed rows lines n left i end h (λ e. ne (u i _ r ∙ e))) }
+    skipped h r ne = record { kept = g.kept; of = λ rows lines u v. passes (g.of rows lines u v) (passed rows lines n left i end h (λ e. ne (u i _ r ∙ e))) }
 
     pub listed : {k : ℕ} (q r : MutBor Writer) → i < end → (left ≡ 0 → ⊥) → row_of i k → k ≡ n → line q i r → q.now ≡ p → Under row_of line n count first end o (left - 1) (i + 1) r.now
     listed q r h z w e l a = record {
-      same = λ s. s i q r l ∙ (ap (λ (x : Writer). x.buffer.ghost_name) a ∙ g.same s);
+      kept = λ k. keeps_both (g.kept k) (rw a at (k i q r l));
       of = λ rows lines u v. goes_on (g.of rows lines u v) (taken rows lines n left i end h z (sym (u i _ w) ∙ e)) (rw a at (v i q r l));
     }

@@ -7,7 +7,7 @@ use Rattle.definition.specs.Table.{Table, carrying}
 use Rattle.definition.specs.Lent.{flat}
 use Rattle.table.specs.Held.{InWords}
 use Rattle.printing.specs.declared.Writer.{Writer}
-use Rattle.printing.specs.Written.{Writes}
+use Rattle.printing.specs.Written.{Keeps, Writes}
 
 -- the slice holds the declarations of t, and there are as many as the code was told
 abbrev pub HoldDeclarations : List ℕ → ℕ → Table → Type 0
@@ -19,6 +19,6 @@ carried rows lines n count first end = flat lines (carrying rows n count (range_
 
 -- A function writes them where one that it calls says the row of an entry, and one writes its line.
 pub record WritesEntries (row_of : ℕ → ℕ → Type 0) (line : MutBor Writer → ℕ → MutBor Writer → Type 0) (n count first end : ℕ) (o o' : Writer) : Type 0 where
-  pub same : ((i : ℕ) (p q : MutBor Writer) → line p i q → q.now.buffer.ghost_name ≡ p.now.buffer.ghost_name) → o'.buffer.ghost_name ≡ o.buffer.ghost_name
+  pub kept : ((i : ℕ) (p q : MutBor Writer) → line p i q → Keeps p.now q.now) → Keeps o o'
   pub of : (rows : ℕ → ℕ) (lines : ℕ → Bytes) → ((i k : ℕ) → row_of i k → k ≡ rows i) → ((i : ℕ) (p q : MutBor Writer) → line p i q → Writes (lines i) p.now q.now)
       → Writes (carried rows lines n count first end) o o'

@@ -3,49 +3,49 @@ use Rattle.table.specs.declared.Numbers.{Numbers}
 use Rattle.definition.specs.Listing.{member_line, value_line, param_line}
 use Rattle.definition.specs.Table.{row_at}
 use Rattle.table.specs.Held.{member_at, value_at, parameter_at, no_member, no_value, no_parameter}
-use Rattle.printing.proofs.Writing.{nothing, as_is}
+use Rattle.printing.proofs.Writing.{nothing, as_is, keeps_still}
 use Rattle.listing.proofs.Rows.{members-under, values-under, params-under, nothing-under}
 use Rattle.listing.proofs.Carried.{entries-listed}
 use Rattle.listing.proofs.sub_lines.Goals as goal
 
 pub returns-in-8 : goal.returns-in-8
 returns-in-8 c = record {
-  same = c.entry_lines.ensures.same (λ i p q l. search rules);
+  kept = c.entry_lines.ensures.kept (λ i p q l. search rules);
   of = λ s h.
       as_is
       (c.entry_lines.ensures.of (λ i. (value_at s i).row) (λ i. value_line c.args.text.now (value_at s i))
-        (λ i k r. let w = h.0.words in search rules)
-        (λ i p q l. let w = h.0.words in let d = h.0.signeds in search rules))
-      (entries-listed (λ e. e.row) (value_line _) _ s.values no_value (ap (λ (y : Numbers). y.count) h.1) (ap (λ (y : Numbers). y.first) h.1) h.0.counts.values
-      ∙ sym (values-under _ s c.args.row (row_at s c.args.row) (ap (λ (y : Numbers). y.kind) h.1) c.in-8.is));
+        (λ i k r. let w = h.words in search rules)
+        (λ i p q l. let w = h.words in let d = h.signeds in search rules))
+      (entries-listed (λ e. e.row) (value_line _) _ s.values no_value (ap (λ (y : Numbers). y.count) (c.row_numbers-x.ensures.of s h.words h.wides)) (ap (λ (y : Numbers). y.first) (c.row_numbers-x.ensures.of s h.words h.wides)) h.counts.values
+      ∙ sym (values-under _ s c.args.row (row_at s c.args.row) (ap (λ (y : Numbers). y.kind) (c.row_numbers-x.ensures.of s h.words h.wides)) c.in-8.is));
 }
 
 pub returns-in-9 : goal.returns-in-9
 returns-in-9 c = record {
-  same = c.entry_lines-in-9.ensures.same (λ i p q l. search rules);
+  kept = c.entry_lines-in-9.ensures.kept (λ i p q l. search rules);
   of = λ s h.
       as_is
       (c.entry_lines-in-9.ensures.of (λ i. (parameter_at s i).row) (λ i. param_line c.args.text.now (parameter_at s i))
-        (λ i k r. let w = h.0.words in search rules)
-        (λ i p q l. let w = h.0.words in search rules))
-      (entries-listed (λ e. e.row) (param_line _) _ s.parameters no_parameter (ap (λ (y : Numbers). y.count) h.1) (ap (λ (y : Numbers). y.first) h.1) h.0.counts.parameters
-      ∙ sym (params-under _ s c.args.row (row_at s c.args.row) (ap (λ (y : Numbers). y.kind) h.1) c.in-9.is));
+        (λ i k r. let w = h.words in search rules)
+        (λ i p q l. let w = h.words in search rules))
+      (entries-listed (λ e. e.row) (param_line _) _ s.parameters no_parameter (ap (λ (y : Numbers). y.count) (c.row_numbers-x.ensures.of s h.words h.wides)) (ap (λ (y : Numbers). y.first) (c.row_numbers-x.ensures.of s h.words h.wides)) h.counts.parameters
+      ∙ sym (params-under _ s c.args.row (row_at s c.args.row) (ap (λ (y : Numbers). y.kind) (c.row_numbers-x.ensures.of s h.words h.wides)) c.in-9.is));
 }
 
 pub returns-then-x-lt6 : goal.returns-then-x-lt6
-returns-then-x-lt6 c = record { same = refl; of = λ s h. as_is nothing (sym (nothing-under _ s c.args.row (row_at s c.args.row) (ap (λ (y : Numbers). y.kind) h.1) (λ e. omega arith) (λ e. omega arith) (λ e. omega arith) (λ e. omega arith))) }
+returns-then-x-lt6 c = record { kept = keeps_still; of = λ s h. as_is nothing (sym (nothing-under _ s c.args.row (row_at s c.args.row) (ap (λ (y : Numbers). y.kind) (c.row_numbers-x.ensures.of s h.words h.wides)) (λ e. omega arith) (λ e. omega arith) (λ e. omega arith) (λ e. omega arith))) }
 
 pub returns-in-6 : goal.returns-in-6
 returns-in-6 c = record {
-  same = c.entry_lines-in-6.ensures.same (λ i p q l. search rules);
+  kept = c.entry_lines-in-6.ensures.kept (λ i p q l. search rules);
   of = λ s h.
       as_is
       (c.entry_lines-in-6.ensures.of (λ i. (member_at s i).row) (λ i. member_line c.args.text.now (member_at s i))
-        (λ i k r. let w = h.0.words in search rules)
-        (λ i p q l. let w = h.0.words in let d = h.0.wides in search rules))
-      (entries-listed (λ e. e.row) (member_line _) _ s.members no_member (ap (λ (y : Numbers). y.count) h.1) (ap (λ (y : Numbers). y.first) h.1) h.0.counts.members
-      ∙ sym (members-under _ s c.args.row (row_at s c.args.row) (ap (λ (y : Numbers). y.kind) h.1) (omega arith) (omega arith)));
+        (λ i k r. let w = h.words in search rules)
+        (λ i p q l. let w = h.words in let d = h.wides in search rules))
+      (entries-listed (λ e. e.row) (member_line _) _ s.members no_member (ap (λ (y : Numbers). y.count) (c.row_numbers-x.ensures.of s h.words h.wides)) (ap (λ (y : Numbers). y.first) (c.row_numbers-x.ensures.of s h.words h.wides)) h.counts.members
+      ∙ sym (members-under _ s c.args.row (row_at s c.args.row) (ap (λ (y : Numbers). y.kind) (c.row_numbers-x.ensures.of s h.words h.wides)) (omega arith) (omega arith)));
 }
 
 pub returns-else-x-lt8 : goal.returns-else-x-lt8
-returns-else-x-lt8 c = record { same = refl; of = λ s h. as_is nothing (sym (nothing-under _ s c.args.row (row_at s c.args.row) (ap (λ (y : Numbers). y.kind) h.1) (λ e. omega arith) (λ e. omega arith) (λ e. omega arith) (λ e. omega arith))) }
+returns-else-x-lt8 c = record { kept = keeps_still; of = λ s h. as_is nothing (sym (nothing-under _ s c.args.row (row_at s c.args.row) (ap (λ (y : Numbers). y.kind) (c.row_numbers-x.ensures.of s h.words h.wides)) (λ e. omega arith) (λ e. omega arith) (λ e. omega arith) (λ e. omega arith))) }
