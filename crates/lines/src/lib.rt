@@ -2,9 +2,10 @@
 // The lines of a listing, for whatever table the lent slices hold: one function for each kind of line. The slices are passed one by one: in a struct their
 // lengths would not be constants to the compiler, and each read that `size_of` makes would be tested.
 ghost use Rattle.std.specs.Prelude.{◌≡◌, length};
-ghost use Rattle.definition.specs.Table.{row_at};
+ghost use Rattle.definition.specs.Table.{row_at, storage_number};
 ghost use Rattle.definition.specs.Listing.{type_line, member_line, value_line, param_line, decl_line};
 ghost use Rattle.table.specs.Held.{member_at, value_at, parameter_at, declaration_at, InWords, InWides, InSigneds};
+ghost use Rattle.table.specs.Reply.{WordIs};
 ghost use Rattle.model.specs.Meaning.{model};
 ghost use Rattle.lines.specs.Lines.{NumbersAre, WritesAs};
 
@@ -45,6 +46,25 @@ pub fn param_line(out: &mut Writer<'_>, text: &[u8], w: &[u32], i: usize)
     ensures { WritesAs (λ t. InWords t w.now) (λ t. param_line text.now (parameter_at t i)) out.old out.new }
 {
     put_param(out, text, parameter_type(w, i), parameter_name(w, i));
+}
+
+// The columns of declarations.
+pub fn declaration_storage(w: &[u32], i: usize) -> u32
+    ensures { WordIs (λ t. storage_number (declaration_at t i).storage) w.now result }
+{
+    declaration_at(w, i).storage.number()
+}
+
+pub fn declaration_type(w: &[u32], i: usize) -> u32
+    ensures { WordIs (λ t. (declaration_at t i).type) w.now result }
+{
+    declaration_at(w, i).ty
+}
+
+pub fn declaration_name(w: &[u32], i: usize) -> u32
+    ensures { WordIs (λ t. (declaration_at t i).name) w.now result }
+{
+    declaration_at(w, i).name
 }
 
 pub fn decl_line(out: &mut Writer<'_>, text: &[u8], w: &[u32], i: usize)

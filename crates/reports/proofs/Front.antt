@@ -114,6 +114,6 @@ module _ {c : Counts} {w d : List ℕ} {v : List ℤ} (x : Table c w d v) where
 pub listed : {text : Bytes} {m : Model} {c : Counts} {w d : List ℕ} {v : List ℤ} {o o' : Writer} (k : Cursor) → k ≡ cursor_of c
     → WritesAs (λ (t : MeantTable). Stands t k (take words_length w) (take wides_length d) (take signeds_length v)) (λ (t : MeantTable). listing text m t) o o' → Lists text m c w d v o o'
 listed {w = w} {d} {v} k p f = record {
-  same = f.same;
+  same = f.kept.same;
   of = λ x. f.of x.all.table (subst (λ (z : Cursor). Stands x.all.table z (take words_length w) (take wides_length d) (take signeds_length v)) (sym p) (holds x));
 }

@@ -1,0 +1,6 @@
+use mathlib.Core.Path.{ap}
+use Rattle.definition.specs.Table.{Declaration}
+use Rattle.lines.proofs.declaration_type.Goals as goal
+
+pub returns : goal.returns
+returns c = record { of = λ t h. ap (λ (x : Declaration). x.type) (c.declaration_at.ensures.of t h) }
