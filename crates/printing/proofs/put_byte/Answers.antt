@@ -6,4 +6,4 @@ pub returns-then-n-out : goal.returns-then-n-out
 returns-then-n-out c = stored _ _ _ (omega arith) (omega arith)
 
 pub returns : goal.returns
-returns c = counted_on _ _ _ (omega arith) c.saturating_add.ensures c.if-n-out.false
+returns c = counted_on _ _ _ (omega arith) c.saturating_add.ensures (omega arith)

@@ -8,6 +8,6 @@ pub returns : goal.returns
 returns t c =
     let last = in_place c.put_byte.ensures (ap (λ d. d ∷ []) c.digit.ensures) in
     elim c.if-self-lt-TEN.branch [
-      | then-self-lt-TEN w ↦ in_place (rw (w.out-is, w.at-is) at last) (one-digit _ w.if-self-lt-TEN.true)
-      | else-self-lt-TEN w ↦ in_place (then_there w.put-at.ensures (rw (w.out-is, w.at-is) at last)) (sym (more_digits _ w.if-self-lt-TEN.false))
+      | else-self-lt-TEN w ↦ in_place (then_there (rw (← w.out-is, ← w.at-is) at w.put-at.ensures) last) (sym (more_digits _ w.if-self-lt-TEN.false))
+      | then-self-lt-TEN w ↦ rw (← w.out-is, ← w.at-is) (in_place last (one-digit _ w.if-self-lt-TEN.true))
     ]
