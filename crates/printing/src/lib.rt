@@ -67,7 +67,10 @@ impl Word for u64 {
 
     // The digits before the last one, then the last one.
     fn put(self, out: &mut [u8], n: usize) -> usize {
-        let at = if self < TEN { n } else { (self / TEN).put(out, n) };
+        if self < TEN {
+            return put_byte(out, n, digit(self));
+        }
+        let at = (self / TEN).put(out, n);
         put_byte(out, at, digit(self % TEN))
     }
 }
