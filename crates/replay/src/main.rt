@@ -100,11 +100,17 @@ fn write_answer<W: Write, E: Write>(
     out: &mut [u8],
     size: usize,
 ) -> io::Result<bool> {
-    let mut answer = Writer { buffer: out, at: size };
+    let mut answer = Writer {
+        buffer: out,
+        at: size,
+    };
     answer.end_line();
     let end = answer.at;
     let mut line = [0u8; LINE];
-    let mut head = Writer { buffer: &mut line, at: 0 };
+    let mut head = Writer {
+        buffer: &mut line,
+        at: 0,
+    };
     head.put("answer");
     head.next(size as u64);
     head.end_line();

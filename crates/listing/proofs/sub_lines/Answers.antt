@@ -14,8 +14,8 @@ returns-in-8 c = record {
   of = λ s h.
       as_is
       (c.entry_lines.ensures.of (λ i. (value_at s i).row) (λ i. value_line c.args.text.now (value_at s i))
-        (λ i k r. let w = h.words in search rules)
-        (λ i p q l. let w = h.words in let d = h.signeds in search rules))
+      (λ i k r. let w = h.words in search rules)
+      (λ i p q l. let w = h.words in let d = h.signeds in search rules))
       (entries-listed (λ e. e.row) (value_line _) _ s.values no_value (ap (λ (y : Numbers). y.count) (c.row_numbers-x.ensures.of s h.words h.wides)) (ap (λ (y : Numbers). y.first) (c.row_numbers-x.ensures.of s h.words h.wides)) h.counts.values
       ∙ sym (values-under _ s c.args.row (row_at s c.args.row) (ap (λ (y : Numbers). y.kind) (c.row_numbers-x.ensures.of s h.words h.wides)) c.in-8.is));
 }
@@ -26,8 +26,8 @@ returns-in-9 c = record {
   of = λ s h.
       as_is
       (c.entry_lines-in-9.ensures.of (λ i. (parameter_at s i).row) (λ i. param_line c.args.text.now (parameter_at s i))
-        (λ i k r. let w = h.words in search rules)
-        (λ i p q l. let w = h.words in search rules))
+      (λ i k r. let w = h.words in search rules)
+      (λ i p q l. let w = h.words in search rules))
       (entries-listed (λ e. e.row) (param_line _) _ s.parameters no_parameter (ap (λ (y : Numbers). y.count) (c.row_numbers-x.ensures.of s h.words h.wides)) (ap (λ (y : Numbers). y.first) (c.row_numbers-x.ensures.of s h.words h.wides)) h.counts.parameters
       ∙ sym (params-under _ s c.args.row (row_at s c.args.row) (ap (λ (y : Numbers). y.kind) (c.row_numbers-x.ensures.of s h.words h.wides)) c.in-9.is));
 }
@@ -41,8 +41,8 @@ returns-in-6 c = record {
   of = λ s h.
       as_is
       (c.entry_lines-in-6.ensures.of (λ i. (member_at s i).row) (λ i. member_line c.args.text.now (member_at s i))
-        (λ i k r. let w = h.words in search rules)
-        (λ i p q l. let w = h.words in let d = h.wides in search rules))
+      (λ i k r. let w = h.words in search rules)
+      (λ i p q l. let w = h.words in let d = h.wides in search rules))
       (entries-listed (λ e. e.row) (member_line _) _ s.members no_member (ap (λ (y : Numbers). y.count) (c.row_numbers-x.ensures.of s h.words h.wides)) (ap (λ (y : Numbers). y.first) (c.row_numbers-x.ensures.of s h.words h.wides)) h.counts.members
       ∙ sym (members-under _ s c.args.row (row_at s c.args.row) (ap (λ (y : Numbers). y.kind) (c.row_numbers-x.ensures.of s h.words h.wides)) (omega arith) (omega arith)));
 }

@@ -14,8 +14,8 @@ loop-i-preserved c =
     left_after c.loop-i.invariant
     (λ t h. next_row _ _ t c.loop-i.i (omega (arith, h.counts.rows, c.loop-i-test.true)))
     (both
-      (held_by c.type_line.ensures (λ t h. (h.words, h.wides, h.counts.members)))
-      c.sub_lines.ensures)
+    (held_by c.type_line.ensures (λ t h. (h.words, h.wides, h.counts.members)))
+    c.sub_lines.ensures)
 
 pub returns : goal.returns
 returns c = none_left c.loop-i.invariant (λ t h. no_more_rows _ _ t c.loop-i.i (omega (arith, h.counts.rows, c.loop-i-test.false)))
