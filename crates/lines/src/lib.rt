@@ -1,4 +1,4 @@
-#![tactic(auto, using(printing::proofs::Writing::keeps_written))]
+#![tactic(auto)]
 // The lines of a listing, for whatever table the lent slices hold: one function for each kind of line. The slices are passed one by one: in a struct their
 // lengths would not be constants to the compiler, and each read that `size_of` makes would be tested.
 ghost use Rattle.std.specs.Prelude.{◌≡◌, length};
