@@ -1,1 +1,3 @@
 pub mod Under
+pub mod Carried
+pub mod Rows

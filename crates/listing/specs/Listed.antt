@@ -1,44 +1,24 @@
 -- What the functions of the listing write, for whatever table the slices hold.
-use Rattle.std.specs.Prelude.{◌≡◌, true, false, ◌||◌, List, [], ℕ, eqb, ℤ, length}
+use Rattle.std.specs.Prelude.{◌≡◌, List, ℕ, ◌-◌, length}
+use Rattle.std.specs.Borrow.{MutBor}
+use Rattle.std.specs.List.{range_with_len}
 use Rattle.definition.specs.Text.{Bytes}
-use Rattle.definition.specs.RowKind.{struct_kind, union_kind, enum_kind, function_kind}
-use Rattle.definition.specs.Row.{Span, span_of}
-use Rattle.definition.specs.Table.{Table, row_at}
-use Rattle.definition.specs.Types.{members_of, values_of, parameters_of}
+use Rattle.definition.specs.Table.{Table, carrying}
 use Rattle.definition.specs.Lent.{flat}
-use Rattle.definition.specs.Listing.{member_line, value_line, param_line}
-use Rattle.table.specs.Held.{InWords, InWides, InSigneds}
+use Rattle.table.specs.Held.{InWords}
+use Rattle.printing.specs.declared.Writer.{Writer}
+use Rattle.printing.specs.Written.{Keeps, Writes}
 
--- the slices hold the entries of t, and there are as many as the code was told
-abbrev pub HoldMembers : List ℕ → List ℕ → ℕ → Table → Type 0
-HoldMembers w d members t = InWords t w × (InWides t d × (members ≡ length t.members))
-
-abbrev pub HoldValues : List ℕ → List ℤ → ℕ → Table → Type 0
-HoldValues w v values t = InWords t w × (InSigneds t v × (values ≡ length t.values))
-
-abbrev pub HoldParameters : List ℕ → ℕ → Table → Type 0
-HoldParameters w parameters t = InWords t w × (parameters ≡ length t.parameters)
-
+-- the slice holds the declarations of t, and there are as many as the code was told
 abbrev pub HoldDeclarations : List ℕ → ℕ → Table → Type 0
 HoldDeclarations w declarations t = InWords t w × (declarations ≡ length t.declarations)
 
--- the lines under a row
-abbrev pub member_lines : Bytes → ℕ → Table → Bytes
-member_lines text n t = flat (member_line text) (members_of t n (span_of (row_at t n)))
+-- the lines of the entries that carry row n, from `first` on and below `end`, and no more than `count`
+abbrev pub carried : (ℕ → ℕ) → (ℕ → Bytes) → ℕ → ℕ → ℕ → ℕ → Bytes
+carried rows lines n count first end = flat lines (carrying rows n count (range_with_len first (end - first)))
 
-abbrev pub value_lines : Bytes → ℕ → Table → Bytes
-value_lines text n t = flat (value_line text) (values_of t n (span_of (row_at t n)))
-
-abbrev pub param_lines : Bytes → ℕ → Table → Bytes
-param_lines text n t = flat (param_line text) (parameters_of t n (span_of (row_at t n)))
-
--- by the row's kind and where its entries stand
-unfoldable pub lines_under : Bytes → ℕ → ℕ → Span → Table → Bytes
-lines_under text n kind e t =
-    elim (eqb kind struct_kind || eqb kind union_kind) [
-      | true ↦ flat (member_line text) (members_of t n e)
-      | false ↦ elim (eqb kind enum_kind) [
-        | true ↦ flat (value_line text) (values_of t n e)
-        | false ↦ elim (eqb kind function_kind) [ true ↦ flat (param_line text) (parameters_of t n e) | false ↦ [] ]
-      ]
-    ]
+-- A function writes them where one that it calls says the row of an entry, and one writes its line.
+pub record WritesEntries (row_of : ℕ → ℕ → Type 0) (line : MutBor Writer → ℕ → MutBor Writer → Type 0) (n count first end : ℕ) (o o' : Writer) : Type 0 where
+  pub kept : ((i : ℕ) (p q : MutBor Writer) → line p i q → Keeps p.now q.now) → Keeps o o'
+  pub of : (rows : ℕ → ℕ) (lines : ℕ → Bytes) → ((i k : ℕ) → row_of i k → k ≡ rows i) → ((i : ℕ) (p q : MutBor Writer) → line p i q → Writes (lines i) p.now q.now)
+      → Writes (carried rows lines n count first end) o o'

@@ -6,8 +6,8 @@ use Prim.Native.Nat.{ℕ, zero, suc, ◌/◌, ◌%◌, ◌≤◌, ◌<◌}
 use native.Mathlib.Omega.{arith}
 use lib.Dec.{ltb, leb}
 use lib.IntN.{ℤ, pos, negsuc, nat_abs}
-use lib.Signed.{le_z}
-use borrow.Author.Tests.{le-leb, lt-ltb, le-ltb}
+use lib.Signed.{lt_z}
+use borrow.Author.Tests.{lt-ltb, le-ltb, ltb-true}
 use Rattle.definition.specs.Text.{Bytes, bytes}
 use Rattle.definition.specs.Listing.{digit_byte, digits_before, decimal, signed_decimal}
 use Rattle.definition_laws.proofs.Counted.{digits_agree}
@@ -45,12 +45,12 @@ more_digits (suc k) h =
     ∙ ap (λ l. l ++ digit_byte (suc k % 10) ∷ []) (digits_agree k (suc k / 10) (suc k / 10) [] (omega arith) (omega arith)))
 
 -- a number with its sign
-pub not_negative : (z : ℤ) → le_z (pos 0) z ≡ true → decimal (nat_abs z) ≡ signed_decimal z
+pub not_negative : (z : ℤ) → lt_z z (pos 0) ≡ false → decimal (nat_abs z) ≡ signed_decimal z
 unfolding signed_decimal
 not_negative (pos n) e = refl
-not_negative (negsuc n) e = let y : ◌≡◌ {A = ℕ} 0 1 = cc in absurd (omega arith)
+not_negative (negsuc n) e = cc
 
-pub negative : (z : ℤ) → le_z (pos 0) z ≡ false → (45 ∷ []) ++ decimal (nat_abs z) ≡ signed_decimal z
+pub negative : (z : ℤ) → lt_z z (pos 0) ≡ true → (45 ∷ []) ++ decimal (nat_abs z) ≡ signed_decimal z
 unfolding signed_decimal bytes
-negative (pos n) e = let h : leb 0 n ≡ true = le-leb 0 n (omega arith) in let y : ◌≡◌ {A = ℕ} 0 1 = cc in absurd (omega arith)
+negative (pos n) e = let h = ltb-true n 0 e in absurd (omega arith)
 negative (negsuc n) e = refl

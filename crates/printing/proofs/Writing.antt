@@ -1,20 +1,20 @@
 -- How writes follow one another. Assumes nothing.
 use mathlib.Core.Path.{◌≡◌, refl, sym, ap, ◌∙◌}
 use mathlib.Core.List.{List, [], ◌∷◌, ◌++◌, append_assoc, append-nil}
-use Prim.Native.Nat.{ℕ, zero, suc, ◌+◌, ◌-◌, ◌/◌, ◌%◌, ◌≤◌, ◌<◌}
+use Prim.Native.Nat.{ℕ, ◌+◌, ◌≤◌, ◌<◌, min}
 use native.Mathlib.Omega.{arith}
-use native.Mathlib.Numerals.{add-one}
-use lib.ListN.{length, set, length-set, take, drop, get_or, drop_of_length-le}
-use lib.Seq.{set_out, drop-cons, take-nil}
-use borrow.Author.Tests.{eq-eqb, ne_eqb, lt-ltb, le-ltb}
-use Rattle.definition.specs.Text.{Bytes, bytes}
-use Rattle.definition.specs.Name.{offset_of, length_of}
+use lib.ListN.{length, set, length-set}
+use lib.Seq.{set_out}
+use lib.Dec.{ltb}
+use mathlib.Core.Bool.{Bool, true, false}
+use borrow.Author.Tests.{ltb-true, ltb-false}
+use Rattle.definition.specs.Text.{Bytes}
 use Rattle.definition.specs.Byte.{space, line_feed}
-use Rattle.definition.specs.Listing.{name_word, parted, line}
-use Rattle.lemmas.proofs.Lists.{drop-next}
-use Rattle.printing.specs.Written.{Buffer, buffer, most_counted, counted, put, write, Wrote, words, WroteWords}
+use Rattle.definition.specs.Listing.{parted, line}
+use Rattle.printing.specs.declared.Writer.{Writer}
+use Rattle.printing.specs.Written.{Buffer, buffer, most_counted, counted, put, write, Wrote, Keeps, Writes, words, WritesWords}
 
-pub write-append : (b : Buffer) (xs ys : Bytes) → write b (xs ++ ys) ≡ write (write b xs) ys
+write-append : (b : Buffer) (xs ys : Bytes) → write b (xs ++ ys) ≡ write (write b xs) ys
 unfolding write
 write-append b [] ys = refl
 write-append b (x ∷ xs) ys = write-append (put b x) xs ys
@@ -24,38 +24,58 @@ unfolding write
 length-write b [] = refl
 length-write b (x ∷ xs) = length-write (put b x) xs ∙ length-set b.bytes b.at x
 
--- one byte, by where its place is
-module _ (out : Bytes) (n x : ℕ) where
-  pub stored : n < length out → length out ≤ most_counted → Wrote (x ∷ []) out n (set out n x) (n + 1)
-  unfolding write counted
-  stored h k = let l : n < most_counted = omega arith in record { is = rw (lt-ltb n most_counted l, counted) }
+-- one byte, where its place is or past the end
+counted-is : (n m : ℕ) → n ≤ most_counted → m ≡ min (n + 1) most_counted → m ≡ counted n
+unfolding counted
+counted-is n m p e = by (ltb n most_counted) refl
+  where
+    by : (b : Bool) → ltb n most_counted ≡ b → m ≡ counted n
+    by true h = let l = ltb-true n most_counted h in rw (h, counted) (omega arith)
+    by false h = let l = ltb-false n most_counted h in rw (h, counted) (omega arith)
 
-  pub counted-on : length out ≤ n → n < most_counted → Wrote (x ∷ []) out n out (n + 1)
-  unfolding write counted
-  counted-on h l = record { is = rw (set_out out n x h, lt-ltb n most_counted l, counted) }
+module _ (out : Bytes) (n x : ℕ) {m : ℕ} (p : n ≤ most_counted) (e : m ≡ min (n + 1) most_counted) where
+  pub stored : Wrote (x ∷ []) out n (set out n x) m
+  unfolding write
+  stored = record { is = ap (λ k. buffer (set out n x) k) (counted-is n m p e) }
 
-  pub counted-out : length out ≤ n → most_counted ≤ n → Wrote (x ∷ []) out n out n
-  unfolding write counted
-  counted-out h l = record { is = rw (set_out out n x h, le-ltb n most_counted l, counted) }
+  pub counted_on : length out ≤ n → Wrote (x ∷ []) out n out m
+  counted_on h = rw (set_out out n x h) at stored
 
 -- nothing is written
-pub nothing : {out : Bytes} {n : ℕ} → Wrote [] out n out n
+pub nothing_there : {out : Bytes} {n : ℕ} → Wrote [] out n out n
 unfolding write
-nothing = record { is = refl }
+nothing_there = record { is = refl }
 
 module _ {xs o : Bytes} {n : ℕ} {o₁ : Bytes} {n₁ : ℕ} (p : Wrote xs o n o₁ n₁) where
   pub same_length : length o₁ ≡ length o
   same_length = ap (λ (b : Buffer). length b.bytes) p.is ∙ length-write (buffer o n) xs
 
-  pub as_is : {ys : Bytes} → xs ≡ ys → Wrote ys o n o₁ n₁
+  pub in_place : {ys : Bytes} → xs ≡ ys → Wrote ys o n o₁ n₁
+  in_place e = rw e at p
+
+  pub then_there : {ys o₂ : Bytes} {n₂ : ℕ} → Wrote ys o₁ n₁ o₂ n₂ → Wrote (xs ++ ys) o n o₂ n₂
+  then_there {ys} q = record { is = q.is ∙ sym (write-append (buffer o n) xs ys ∙ ap (λ (b : Buffer). write b ys) (sym p.is)) }
+
+-- the same with a writer
+pub nothing : {o : Writer} → Writes [] o o
+nothing = record { same = refl; wrote = nothing_there }
+
+module _ {xs : Bytes} {o o₁ : Writer} (p : Writes xs o o₁) where
+  pub as_is : {ys : Bytes} → xs ≡ ys → Writes ys o o₁
   as_is e = rw e at p
 
-  -- what is still to write, after it
-  pub rest : (ys : Bytes) → write (buffer o n) (xs ++ ys) ≡ write (buffer o₁ n₁) ys
-  rest ys = write-append (buffer o n) xs ys ∙ ap (λ (b : Buffer). write b ys) (sym p.is)
+  pub then : {ys : Bytes} {o₂ : Writer} → Writes ys o₁ o₂ → Writes (xs ++ ys) o o₂
+  then q = record { same = q.same ∙ p.same; wrote = then_there p.wrote q.wrote }
 
-  pub then : {ys o₂ : Bytes} {n₂ : ℕ} → Wrote ys o₁ n₁ o₂ n₂ → Wrote (xs ++ ys) o n o₂ n₂
-  then {ys} q = record { is = q.is ∙ sym (rest ys) }
+-- what a write keeps
+pub keeps_still : {o : Writer} → Keeps o o
+keeps_still = record { same = refl; long = refl }
+
+pub keeps_written : {xs : Bytes} {o o₁ : Writer} → Writes xs o o₁ → Keeps o o₁
+keeps_written p = record { same = p.same; long = same_length p.wrote }
+
+pub keeps_both : {o o₁ o₂ : Writer} → Keeps o o₁ → Keeps o₁ o₂ → Keeps o o₂
+keeps_both p q = record { same = q.same ∙ p.same; long = q.long ∙ p.long }
 
 -- ---- lines
 
@@ -65,27 +85,23 @@ line-words w [] = sym (append-nil w)
 line-words w (v ∷ vs) = ap (λ l. w ++ space ∷ l) (line-words v vs)
 
 -- a line is its first word, the words after it, and a line feed
-pub a-line : {w : Bytes} {vs : List Bytes} {o o₁ o₂ o₃ : Bytes} {n n₁ n₂ n₃ : ℕ}
-    → Wrote w o n o₁ n₁ → WroteWords vs o₁ n₁ o₂ n₂ → Wrote (line_feed ∷ []) o₂ n₂ o₃ n₃ → Wrote (line w vs) o n o₃ n₃
+pub a-line : {w : Bytes} {vs : List Bytes} {o o₁ o₂ o₃ : Writer} → Writes w o o₁ → WritesWords vs o₁ o₂ → Writes (line_feed ∷ []) o₂ o₃ → Writes (line w vs) o o₃
 unfolding line
-a-line {w} {vs} p q r = as_is (then (then p q.wrote) r) (ap (λ l. l ++ line_feed ∷ []) (sym (line-words w vs)))
+a-line {w} {vs} p q r = as_is (then (then p q.written) r) (ap (λ l. l ++ line_feed ∷ []) (sym (line-words w vs)))
 
-pub no_word : {o : Bytes} {n : ℕ} → WroteWords [] o n o n
+pub no_word : {o : Writer} → WritesWords [] o o
 unfolding words
-no_word = record { wrote = nothing }
+no_word = record { written = nothing }
 
-pub a_word : {v : Bytes} {vs : List Bytes} {o o₁ o₂ : Bytes} {n n₁ n₂ : ℕ} → Wrote (space ∷ v) o n o₁ n₁ → WroteWords vs o₁ n₁ o₂ n₂ → WroteWords (v ∷ vs) o n o₂ n₂
+pub a_word : {v : Bytes} {vs : List Bytes} {o o₁ o₂ : Writer} → Writes (space ∷ v) o o₁ → WritesWords vs o₁ o₂ → WritesWords (v ∷ vs) o o₂
 unfolding words
-a_word p q = record { wrote = then p q.wrote }
+a_word p q = record { written = then p q.written }
 
-pub last_word : {v o o₁ : Bytes} {n n₁ : ℕ} → Wrote (space ∷ v) o n o₁ n₁ → WroteWords (v ∷ []) o n o₁ n₁
+pub last_word : {v : Bytes} {o o₁ : Writer} → Writes (space ∷ v) o o₁ → WritesWords (v ∷ []) o o₁
 last_word p = a_word p no_word
 
--- a word or words in other terms
-pub word_as : {u v o o₁ : Bytes} {n n₁ : ℕ} → Wrote (space ∷ v) o n o₁ n₁ → u ≡ v → Wrote (space ∷ u) o n o₁ n₁
-word_as p e = as_is p (ap (λ l. space ∷ l) (sym e))
-
-pub words_as : {us vs : List Bytes} {o o₁ : Bytes} {n n₁ : ℕ} → WroteWords vs o n o₁ n₁ → us ≡ vs → WroteWords us o n o₁ n₁
+-- words in other terms
+pub words_as : {us vs : List Bytes} {o o₁ : Writer} → WritesWords vs o o₁ → us ≡ vs → WritesWords us o o₁
 words_as p e = rw e p
 
 words_append : (us vs : List Bytes) → words (us ++ vs) ≡ words us ++ words vs
@@ -93,64 +109,15 @@ unfolding words
 words_append [] vs = refl
 words_append (u ∷ us) vs = ap (λ l. space ∷ l) (ap (λ l. u ++ l) (words_append us vs) ∙ sym (append_assoc u (words us) (words vs)))
 
-pub words-then : {us vs : List Bytes} {o o₁ o₂ : Bytes} {n n₁ n₂ : ℕ} → WroteWords us o n o₁ n₁ → WroteWords vs o₁ n₁ o₂ n₂ → WroteWords (us ++ vs) o n o₂ n₂
-words-then {us} {vs} p q = record { wrote = as_is (then p.wrote q.wrote) (sym (words_append us vs)) }
-
 -- a line without its end, and the rest of it
-pub a_head : {w : Bytes} {vs : List Bytes} {o o₁ o₂ : Bytes} {n n₁ n₂ : ℕ} → Wrote w o n o₁ n₁ → WroteWords vs o₁ n₁ o₂ n₂ → Wrote (parted w vs) o n o₂ n₂
-a_head {w} {vs} p q = as_is (then p q.wrote) (sym (line-words w vs))
+pub a_head : {w : Bytes} {vs : List Bytes} {o o₁ o₂ : Writer} → Writes w o o₁ → WritesWords vs o₁ o₂ → Writes (parted w vs) o o₂
+a_head {w} {vs} p q = as_is (then p q.written) (sym (line-words w vs))
 
 parted-append : (w : Bytes) (us vs : List Bytes) → parted w us ++ words vs ≡ parted w (us ++ vs)
 parted-append w us vs =
     ap (λ l. l ++ words vs) (line-words w us)
     ∙ (append_assoc w (words us) (words vs) ∙ (ap (λ l. w ++ l) (sym (words_append us vs)) ∙ sym (line-words w (us ++ vs))))
 
-pub line_after : (w : Bytes) (us : List Bytes) {vs : List Bytes} {o o₁ o₂ o₃ : Bytes} {n n₁ n₂ n₃ : ℕ}
-    → Wrote (parted w us) o n o₁ n₁ → WroteWords vs o₁ n₁ o₂ n₂ → Wrote (line_feed ∷ []) o₂ n₂ o₃ n₃ → Wrote (line w (us ++ vs)) o n o₃ n₃
+pub line_after : (w : Bytes) (us : List Bytes) {vs : List Bytes} {o o₁ o₂ o₃ : Writer} → Writes (parted w us) o o₁ → WritesWords vs o₁ o₂ → Writes (line_feed ∷ []) o₂ o₃ → Writes (line w (us ++ vs)) o o₃
 unfolding line
-line_after w us {vs} p q r = as_is (then (then p q.wrote) r) (ap (λ l. l ++ line_feed ∷ []) (parted-append w us vs))
-
--- ---- loops: the whole is what is left to write from here
-
-pub record Left (bs out : Bytes) (n : ℕ) (whole : Buffer) : Type 0 where
-  pub same : whole ≡ write (buffer out n) bs
-
-pub all_left : {bs out : Bytes} {n : ℕ} → Left bs out n (write (buffer out n) bs)
-all_left = record { same = refl }
-
-module _ {bs out : Bytes} {n : ℕ} {whole : Buffer} (g : Left bs out n whole) where
-  pub none_left : bs ≡ [] → buffer out n ≡ whole
-  unfolding write
-  none_left e = sym (g.same ∙ ap (λ l. write (buffer out n) l) e)
-
-  pub left_after : {xs ys out' : Bytes} {n' : ℕ} → bs ≡ xs ++ ys → Wrote xs out n out' n' → Left ys out' n' whole
-  left_after {ys = ys} e p = record { same = g.same ∙ (ap (λ l. write (buffer out n) l) e ∙ rest p ys) }
-
--- the byte at i is the next one, of a part of a text
-next_byte : (s : Bytes) (i : ℕ) → i < length s → drop i s ≡ get_or s i 0 ∷ drop (i + 1) s
-next_byte s i h = rw add-one (drop-cons s i 0 h)
-
-pub next_of : (s : Bytes) (i : ℕ) → i < length s → drop i s ≡ (get_or s i 0 ∷ []) ++ drop (i + 1) s
-next_of s i h = drop-next s i 0 h
-
-pub next_of_part : (s : Bytes) (i left : ℕ) → i < length s → (left ≡ 0 → ⊥) → take left (drop i s) ≡ (get_or s i 0 ∷ []) ++ take (left - 1) (drop (i + 1) s)
-next_of_part s i zero h z = absurd (z refl)
-next_of_part s i (suc k) h z = let e : suc k - 1 ≡ k = omega arith in rw (e, drop-next s i 0 h)
-
--- ---- names
-
-module _ (text : Bytes) (name : ℕ) where
-  pub no_name_lem : name ≡ 0 → name_word text name ≡ 45 ∷ []
-  unfolding name_word bytes
-  no_name_lem e = rw (eq-eqb name 0 e, name_word)
-
-  pub a-name : (name ≡ 0 → ⊥) → name_word text name ≡ take (name / 65536) (drop (name % 65536) text)
-  unfolding name_word offset_of length_of
-  a-name e = rw (ne_eqb name 0 e, name_word)
-
-module _ (text : Bytes) (i left : ℕ) where
-  pub name_done : left ≡ 0 → take left (drop i text) ≡ []
-  name_done e = rw e
-
-  pub name-ended : length text ≤ i → take left (drop i text) ≡ []
-  name-ended h = rw (drop_of_length-le text h) (take-nil left)
+line_after w us {vs} p q r = as_is (then (then p q.written) r) (ap (λ l. l ++ line_feed ∷ []) (parted-append w us vs))

@@ -1,8 +1,9 @@
 -- A lent buffer that is written from a place on. A byte past its end is not written, but counted, so that no buffer is overrun and the count says
 -- how long it must be. The count stops at the largest number of 64 bits.
-use Rattle.std.specs.Prelude.{◌≡◌, true, false, List, [], ◌∷◌, ◌++◌, ℕ, ◌+◌, ltb, set}
+use Rattle.std.specs.Prelude.{◌≡◌, true, false, List, [], ◌∷◌, ◌++◌, ℕ, ◌+◌, ltb, length, set}
 use Rattle.definition.specs.Text.{Bytes}
 use Rattle.definition.specs.Byte.{space}
+use Rattle.printing.specs.declared.Writer.{Writer}
 
 pub record Buffer : Type 0 where
   pub bytes : Bytes
@@ -29,11 +30,21 @@ write b (x ∷ xs) = write (put b x) xs
 pub record Wrote (bs out : Bytes) (n : ℕ) (out' : Bytes) (n' : ℕ) : Type 0 where
   pub is : buffer out' n' ≡ write (buffer out n) bs
 
+-- A writer still holds the buffer that it was made of, which is as long as it was.
+pub record Keeps (o o' : Writer) : Type 0 where
+  pub same : o'.buffer.ghost_name ≡ o.buffer.ghost_name
+  pub long : length o'.buffer.now ≡ length o.buffer.now
+
+-- A write with a writer, which still holds the buffer that it was made of.
+pub record Writes (bs : Bytes) (o o' : Writer) : Type 0 where
+  pub same : o'.buffer.ghost_name ≡ o.buffer.ghost_name
+  pub wrote : Wrote bs o.buffer.now o.at o'.buffer.now o'.at
+
 -- the words of a line after its first one, each after a space
 unfoldable pub words : List Bytes → Bytes
 words [] = []
 words (v ∷ vs) = space ∷ v ++ words vs
 
 -- the same of such words
-pub record WroteWords (vs : List Bytes) (out : Bytes) (n : ℕ) (out' : Bytes) (n' : ℕ) : Type 0 where
-  pub wrote : Wrote (words vs) out n out' n'
+pub record WritesWords (vs : List Bytes) (o o' : Writer) : Type 0 where
+  pub written : Writes (words vs) o o'

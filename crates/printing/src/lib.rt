@@ -1,28 +1,21 @@
 #![tactic(auto)]
-// Bytes, numbers, names and the line of a refusal, written into a lent buffer. Each function writes from place n on and answers the place after.
-// What is past the end of the buffer is counted and not written.
-ghost use Rattle.std.specs.Prelude.{[], ◌∷◌, ◌≡◌, ◌<◌};
-ghost use Rattle.definition.specs.Byte.{space};
+// Bytes, numbers, names and the line of a refusal, written into a lent buffer. What is past the end of the buffer is counted and not written.
+ghost use Rattle.std.specs.Prelude.{[], ◌∷◌, ◌≡◌, ◌<◌, ℕ, List};
+ghost use Rattle.definition.specs.Byte.{space, line_feed};
 ghost use Rattle.definition.specs.Listing.{digit_byte, decimal, signed_decimal, name_word, refused_line};
-ghost use Rattle.printing.specs.Written.{Wrote};
+ghost use Rattle.printing.specs.Written.{Wrote, Writes};
+ghost use Rattle.printing.specs.Words.{or_dash_of};
 
 use arithmetic::magnitude;
 use encoding::names::NAME_UNIT;
 
-pub const SPACE: u8 = b' ';
+const SPACE: u8 = b' ';
 
-pub const LINE_FEED: u8 = b'\n';
+const LINE_FEED: u8 = b'\n';
 
-pub const DASH: u8 = b'-';
+const DASH: u8 = b'-';
 
 const TEN: u64 = 10;
-
-fn digit(x: u64) -> u8
-    requires { x < 10 }
-    ensures { result ≡ digit_byte x }
-{
-    b'0' + (x as u8)
-}
 
 pub fn put_byte(out: &mut [u8], n: usize, b: u8) -> usize
     ensures { Wrote (b ∷ []) out.old n out.new result }
@@ -31,111 +24,138 @@ pub fn put_byte(out: &mut [u8], n: usize, b: u8) -> usize
         out[n] = b;
         return n + 1;
     }
-    if n == usize::MAX {
-        return n;
-    }
-    n + 1
+    n.saturating_add(1)
 }
 
-pub fn put_bytes(out: &mut [u8], n: usize, s: &[u8]) -> usize
-    ensures { Wrote s.now out.old n out.new result }
-{
-    let mut at = n;
-    let mut i = 0;
-    while i < s.len() {
-        at = put_byte(out, at, s[i]);
-        i = i + 1;
-    }
-    at
+// A word of a line. It is written from place n on, and the answer is the place after it.
+pub trait Word {
+    ghost bytes: { Self → List ℕ };
+
+    fn put(self, out: &mut [u8], n: usize) -> usize
+        ensures { Wrote (bytes self) out.old n out.new result };
 }
 
-// The digits before the last one, then the last one.
-pub fn put_decimal(out: &mut [u8], n: usize, x: u64) -> usize
-    ensures { Wrote (decimal x) out.old n out.new result }
-{
-    if x < TEN {
-        return put_byte(out, n, digit(x));
-    }
-    let at = put_decimal(out, n, x / TEN);
-    put_byte(out, at, digit(x % TEN))
-}
+impl Word for &[u8] {
+    ghost bytes = { λ s. s.now };
 
-pub fn put_signed(out: &mut [u8], n: usize, x: i64) -> usize
-    ensures { Wrote (signed_decimal x) out.old n out.new result }
-{
-    let size = magnitude(x);
-    if 0 <= x {
-        return put_decimal(out, n, size);
-    }
-    let at = put_byte(out, n, DASH);
-    put_decimal(out, at, size)
-}
-
-// A name: its bytes in the text, or a dash.
-pub fn put_name(out: &mut [u8], n: usize, text: &[u8], name: u32) -> usize
-    ensures { Wrote (name_word text.now name) out.old n out.new result }
-{
-    if name == 0 {
-        return put_byte(out, n, DASH);
-    }
-    let mut at = n;
-    let mut i = (name % NAME_UNIT) as usize;
-    let mut left = name / NAME_UNIT;
-    while i < text.len() {
-        if left == 0 {
-            return at;
+    fn put(self, out: &mut [u8], n: usize) -> usize {
+        let mut at = n;
+        for b in self {
+            at = put_byte(out, at, *b);
         }
-        at = put_byte(out, at, text[i]);
-        i = i + 1;
-        left = left - 1;
+        at
     }
-    at
 }
 
-// Words after a space.
-pub fn next_word(out: &mut [u8], n: usize, s: &[u8]) -> usize
-    ensures { Wrote (space ∷ s.now) out.old n out.new result }
-{
-    let at = put_byte(out, n, SPACE);
-    put_bytes(out, at, s)
+impl Word for &str {
+    ghost bytes = { λ s. s.now };
+
+    fn put(self, out: &mut [u8], n: usize) -> usize {
+        self.as_bytes().put(out, n)
+    }
 }
 
-pub fn next_decimal(out: &mut [u8], n: usize, x: u64) -> usize
-    ensures { Wrote (space ∷ decimal x) out.old n out.new result }
+fn digit(x: u64) -> u8
+    requires { x < 10 }
+    ensures { result ≡ digit_byte x }
 {
-    let at = put_byte(out, n, SPACE);
-    put_decimal(out, at, x)
+    b'0' + (x as u8)
 }
 
-pub fn next_signed(out: &mut [u8], n: usize, x: i64) -> usize
-    ensures { Wrote (space ∷ signed_decimal x) out.old n out.new result }
-{
-    let at = put_byte(out, n, SPACE);
-    put_signed(out, at, x)
+impl Word for u64 {
+    ghost bytes = { decimal };
+
+    // The digits before the last one, then the last one.
+    fn put(self, out: &mut [u8], n: usize) -> usize {
+        if self < TEN {
+            return put_byte(out, n, digit(self));
+        }
+        let at = (self / TEN).put(out, n);
+        put_byte(out, at, digit(self % TEN))
+    }
 }
 
-pub fn next_name(out: &mut [u8], n: usize, text: &[u8], name: u32) -> usize
-    ensures { Wrote (space ∷ name_word text.now name) out.old n out.new result }
-{
-    let at = put_byte(out, n, SPACE);
-    put_name(out, at, text, name)
+impl Word for i64 {
+    ghost bytes = { signed_decimal };
+
+    fn put(self, out: &mut [u8], n: usize) -> usize {
+        let at = if self < 0 { put_byte(out, n, DASH) } else { n };
+        magnitude(self).put(out, at)
+    }
+}
+
+// A number, or a dash where there is none.
+impl Word for Option<u64> {
+    ghost bytes = { or_dash_of };
+
+    fn put(self, out: &mut [u8], n: usize) -> usize {
+        match self {
+            Some(x) => x.put(out, n),
+            None => put_byte(out, n, DASH),
+        }
+    }
+}
+
+// A name of a text: its bytes there, or a dash.
+#[derive(Clone, Copy)]
+pub struct Name<'a> {
+    pub text: &'a [u8],
+    pub name: u32,
+}
+
+impl Word for Name<'_> {
+    ghost bytes = { λ n. name_word n.text.now n.name };
+
+    fn put(self, out: &mut [u8], n: usize) -> usize {
+        let text = self.text;
+        let name = self.name;
+        if name == 0 {
+            return put_byte(out, n, DASH);
+        }
+        let offset = (name % NAME_UNIT) as usize;
+        let length = (name / NAME_UNIT) as usize;
+        let rest = &text[offset.min(text.len())..];
+        rest[..length.min(rest.len())].put(out, n)
+    }
+}
+
+// A lent buffer, and the place in it that is written next.
+#[derive(Drop)]
+pub struct Writer<'a> {
+    pub buffer: &'a mut [u8],
+    pub at: usize,
+}
+
+impl Writer<'_> {
+    pub fn put<W: Word>(&mut self, word: W)
+        ensures { Writes (W.bytes word) self.old self.new }
+    {
+        self.at = word.put(self.buffer, self.at);
+    }
+
+    // A word after a space.
+    pub fn next<W: Word>(&mut self, word: W)
+        ensures { Writes (space ∷ W.bytes word) self.old self.new }
+    {
+        let at = put_byte(self.buffer, self.at, SPACE);
+        self.at = word.put(self.buffer, at);
+    }
+
+    pub fn end_line(&mut self)
+        ensures { Writes (line_feed ∷ []) self.old self.new }
+    {
+        self.at = put_byte(self.buffer, self.at, LINE_FEED);
+    }
 }
 
 // The line of a refusal.
-pub fn put_refused(
-    out: &mut [u8],
-    n: usize,
-    number: u32,
-    offset: usize,
-    line: usize,
-    column: usize,
-) -> usize
-    ensures { Wrote (refused_line number offset line column) out.old n out.new result }
+pub fn put_refused(out: &mut Writer<'_>, number: u32, offset: usize, line: usize, column: usize)
+    ensures { Writes (refused_line number offset line column) out.old out.new }
 {
-    let a = put_bytes(out, n, b"refused");
-    let b = next_decimal(out, a, number as u64);
-    let c = next_decimal(out, b, offset as u64);
-    let d = next_decimal(out, c, line as u64);
-    let e = next_decimal(out, d, column as u64);
-    put_byte(out, e, LINE_FEED)
+    out.put("refused");
+    out.next(number as u64);
+    out.next(offset as u64);
+    out.next(line as u64);
+    out.next(column as u64);
+    out.end_line();
 }

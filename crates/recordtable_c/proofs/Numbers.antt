@@ -1,8 +1,9 @@
 -- The numbers that a caller is told are those of the definition's answer, and stand in front of the lent slice.
 use mathlib.Core.Path.{◌≡◌, refl, sym, ap, ◌∙◌}
-use mathlib.Core.List.{List, [], ◌∷◌}
-use Prim.Native.Nat.{ℕ}
-use lib.ListN.{set}
+use mathlib.Core.List.{List, [], ◌∷◌, ◌++◌}
+use Prim.Native.Nat.{ℕ, zero, suc, min}
+use native.Mathlib.Omega.{arith}
+use lib.ListN.{length, take, drop}
 use Rattle.definition.specs.Text.{Bytes}
 use Rattle.definition.specs.Entry.{Entry, Outcome, accepted, rejected}
 use Rattle.definition.specs.Lent.{Lent, left_in}
@@ -12,21 +13,12 @@ use Rattle.recordtable_c.specs.Told.{outcome_in, number_of, numbers_of, number_t
 
 -- ---- the front of a slice
 
-in_front : (a b c d e f : ℕ) (ys : List ℕ) → set (set (set (set (set (set ys 0 a) 1 b) 2 c) 3 d) 4 e) 5 f ≡ over (a ∷ b ∷ c ∷ d ∷ e ∷ f ∷ []) ys
+pub copied : (xs ys : List ℕ) (k : ℕ) → k ≡ min (length xs) (length ys) → take k xs ++ drop k ys ≡ over xs ys
 unfolding over
-in_front a b c d e f [] = refl
-in_front a b c d e f (_ ∷ []) = refl
-in_front a b c d e f (_ ∷ _ ∷ []) = refl
-in_front a b c d e f (_ ∷ _ ∷ _ ∷ []) = refl
-in_front a b c d e f (_ ∷ _ ∷ _ ∷ _ ∷ []) = refl
-in_front a b c d e f (_ ∷ _ ∷ _ ∷ _ ∷ _ ∷ []) = refl
-in_front a b c d e f (_ ∷ _ ∷ _ ∷ _ ∷ _ ∷ _ ∷ ys) = refl
-
-pub six : (a b c d e f : ℕ) (ys : List ℕ) {ys₁ ys₂ ys₃ ys₄ ys₅ ys₆ : List ℕ} → ys₁ ≡ set ys 0 a → ys₂ ≡ set ys₁ 1 b → ys₃ ≡ set ys₂ 2 c → ys₄ ≡ set ys₃ 3 d → ys₅ ≡ set ys₄ 4 e → ys₆ ≡ set ys₅ 5 f → ys₆ ≡ over (a ∷ b ∷ c ∷ d ∷ e ∷ f ∷ []) ys
-six a b c d e f ys h₁ h₂ h₃ h₄ h₅ h₆ =
-    h₆
-    ∙ ap (λ zs. set zs 5 f) (h₅ ∙ ap (λ zs. set zs 4 e) (h₄ ∙ ap (λ zs. set zs 3 d) (h₃ ∙ ap (λ zs. set zs 2 c) (h₂ ∙ ap (λ zs. set zs 1 b) h₁))))
-    ∙ in_front a b c d e f ys
+copied [] ys k e = let z : k ≡ 0 = omega (arith, e) in rw z refl
+copied (x ∷ xs) [] k e = let z : k ≡ 0 = omega (arith, e) in rw z refl
+copied (x ∷ xs) (y ∷ ys) zero e = absurd (omega (arith, e))
+copied (x ∷ xs) (y ∷ ys) (suc k) e = ap (λ zs. x ∷ zs) (copied xs ys k (omega (arith, e)))
 
 -- ---- the code's answer
 

@@ -2,7 +2,7 @@
 // The reader for programs in C and Rust: functions on numbers and lent slices, each a pointer and a length there. `include/recordtable.h` declares them.
 ghost use Rattle.definition.specs.Listing.{printed_outcome};
 ghost use Rattle.printing.specs.Written.{Wrote};
-ghost use Rattle.std.specs.Prelude.{◌≡◌, [], ◌∷◌, set};
+ghost use Rattle.std.specs.Prelude.{◌≡◌};
 ghost use Rattle.definition.specs.Entry.{wholeHeader, singleDeclaration};
 ghost use Rattle.definition.specs.Lent.{zeroed, left_in};
 ghost use Rattle.clearing.specs.Slices.{lent};
@@ -17,24 +17,12 @@ use reports::{report_declaration, report_unit};
 // What is returned for a text that is accepted. Refusals count from 1.
 const ACCEPTED: u32 = 0;
 
-// A number where there is room for it.
-fn put(answer: &mut [u64], i: usize, x: usize)
-    ensures { answer.new ≡ set answer.old i x }
+// The numbers, as far as there is room for them.
+fn put(answer: &mut [u64], numbers: &[u64])
+    ensures { answer.new ≡ over numbers.now answer.old }
 {
-    if i < answer.len() {
-        answer[i] = x as u64;
-    }
-}
-
-fn put_six(answer: &mut [u64], a: usize, b: usize, c: usize, d: usize, e: usize, f: usize)
-    ensures { answer.new ≡ over (a ∷ b ∷ c ∷ d ∷ e ∷ f ∷ []) answer.old }
-{
-    put(answer, 0, a);
-    put(answer, 1, b);
-    put(answer, 2, c);
-    put(answer, 3, d);
-    put(answer, 4, e);
-    put(answer, 5, f);
+    let n = numbers.len().min(answer.len());
+    answer[..n].copy_from_slice(&numbers[..n]);
 }
 
 fn tell(outcome: Outcome, answer: &mut [u64]) -> u32
@@ -43,19 +31,20 @@ fn tell(outcome: Outcome, answer: &mut [u64]) -> u32
 {
     match outcome {
         Ok(c) => {
-            put_six(
-                answer,
-                c.rows,
-                c.members,
-                c.values,
-                c.parameters,
-                c.declarations,
-                c.names,
-            );
+            let counts = [
+                c.rows as u64,
+                c.members as u64,
+                c.values as u64,
+                c.parameters as u64,
+                c.declarations as u64,
+                c.names as u64,
+            ];
+            put(answer, &counts);
             ACCEPTED
         }
         Err(e) => {
-            put_six(answer, e.offset, e.line, e.column, 0, 0, 0);
+            let place = [e.offset as u64, e.line as u64, e.column as u64, 0, 0, 0];
+            put(answer, &place);
             u32::from(e.reason)
         }
     }

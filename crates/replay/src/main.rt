@@ -5,7 +5,7 @@ ghost use Rattle.std.specs.Prelude.{◌≤◌, length, IfOk};
 
 use encoding::regions::{SIGNEDS, WIDES, WORDS};
 use model::Model;
-use printing::{LINE_FEED, put_byte, put_bytes, put_decimal};
+use printing::Writer;
 use reports::{listing_buffer, report_declaration, report_unit};
 use std::io;
 use std::io::{Read, Write};
@@ -100,11 +100,21 @@ fn write_answer<W: Write, E: Write>(
     out: &mut [u8],
     size: usize,
 ) -> io::Result<bool> {
-    let end = put_byte(out, size, LINE_FEED);
+    let mut answer = Writer {
+        buffer: out,
+        at: size,
+    };
+    answer.end_line();
+    let end = answer.at;
     let mut line = [0u8; LINE];
-    let a = put_bytes(&mut line, 0, b"answer ");
-    let b = put_decimal(&mut line, a, size as u64);
-    let c = put_byte(&mut line, b, LINE_FEED);
+    let mut head = Writer {
+        buffer: &mut line,
+        at: 0,
+    };
+    head.put("answer");
+    head.next(size as u64);
+    head.end_line();
+    let c = head.at;
     if LINE < c {
         return Ok(false);
     }

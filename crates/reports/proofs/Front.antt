@@ -22,7 +22,8 @@ use Rattle.table.proofs.Flat.{length-padded, length-flat}
 use Rattle.clearing.specs.Slices.{lent}
 use Rattle.entry_points.specs.Answers.{counts_of}
 use Rattle.entry_points.specs.declared.Counts.{Counts}
-use Rattle.lines.specs.Lines.{WroteAs}
+use Rattle.printing.specs.declared.Writer.{Writer}
+use Rattle.lines.specs.Lines.{WritesAs}
 use Rattle.reports.specs.Printed.{cursor_of, Table, Lists}
 
 -- ---- numbers with zeros after them
@@ -110,8 +111,9 @@ module _ {c : Counts} {w d : List ℕ} {v : List ℤ} (x : Table c w d v) where
       (front-holds x.of x.all x.acceptable x.left)
 
 -- what is listed of their front
-pub listed : {text : Bytes} {m : Model} {c : Counts} {w d : List ℕ} {v : List ℤ} {b b' : Bytes} {n n' : ℕ} (k : Cursor) → k ≡ cursor_of c
-    → WroteAs (λ (t : MeantTable). Stands t k (take words_length w) (take wides_length d) (take signeds_length v)) (λ (t : MeantTable). listing text m t) b n b' n' → Lists text m c w d v b n b' n'
+pub listed : {text : Bytes} {m : Model} {c : Counts} {w d : List ℕ} {v : List ℤ} {o o' : Writer} (k : Cursor) → k ≡ cursor_of c
+    → WritesAs (λ (t : MeantTable). Stands t k (take words_length w) (take wides_length d) (take signeds_length v)) (λ (t : MeantTable). listing text m t) o o' → Lists text m c w d v o o'
 listed {w = w} {d} {v} k p f = record {
+  same = f.kept.same;
   of = λ x. f.of x.all.table (subst (λ (z : Cursor). Stands x.all.table z (take words_length w) (take wides_length d) (take signeds_length v)) (sym p) (holds x));
 }

@@ -13,7 +13,8 @@ use Rattle.definition_laws.proofs.Call.{outcome-acceptable}
 use Rattle.model.specs.Meaning.{model, model_found}
 use Rattle.model.specs.declared.Model.{Model}
 use Rattle.clearing.specs.Slices.{lent}
-use Rattle.printing.specs.Written.{Wrote}
+use Rattle.printing.specs.declared.Writer.{Writer}
+use Rattle.printing.specs.Written.{Writes}
 use Rattle.entry_points.specs.Answers.{out, shown, answered, Told, Accepted, Rejected}
 use Rattle.entry_points.specs.declared.Counts.{Counts}
 use Rattle.entry_points.proofs.Derived.{Accepts, accepts, rejects}
@@ -41,18 +42,20 @@ module _ (number : ℕ) (text : Bytes) (w d : List ℕ) (v : List ℤ) where
   pub table_of : (c : Counts) (r : Told) → r ≡ Accepted c → Answered number text r w d v → Table c w d v
   table_of c r q x = table-left c x.of x.entry (accepts x.of number x.entry text w d v c (rw (sym q) x.is))
 
-  module _ {b b' : Bytes} {n n' : ℕ} where
-    pub accepted-printed : (c : Counts) (r : Told) (m : MeantModel) → r ≡ Accepted c → m ≡ or_lp64 (model_of number) → Lists text m c w d v b n b' n' → Prints number text r w d v b n b' n'
+  module _ {o o' : Writer} where
+    pub accepted-printed : (c : Counts) (r : Told) (m : MeantModel) → r ≡ Accepted c → m ≡ or_lp64 (model_of number) → Lists text m c w d v o o' → Prints number text r w d v o o'
     unfolding printed_outcome table-left
     accepted-printed c r m q e f = record {
+      same = f.same;
       of = λ l entry z.
           let g = accepts l number entry text w d v c (rw (sym q) z) in
           rw (g.says, sym e) (f.of (table-left c l entry g));
     }
 
-    pub rejected-printed : (k at line column : ℕ) (r : Told) → r ≡ Rejected k at line column → Wrote (refused_line k at line column) b n b' n' → Prints number text r w d v b n b' n'
+    pub rejected-printed : (k at line column : ℕ) (r : Told) → r ≡ Rejected k at line column → Writes (refused_line k at line column) o o' → Prints number text r w d v o o'
     unfolding printed_outcome
     rejected-printed k at line column r q f = record {
+      same = f.same;
       of = λ l entry z.
           let g = rejects l number entry text w d v k at line column (rw (sym q) z) in
           rw g.says f;

@@ -8,7 +8,8 @@ use Rattle.definition.specs.Listing.{listing, printed_outcome}
 use Rattle.definition_laws.specs.Inside.{Acceptable}
 use Rattle.table.specs.declared.Cursor.{Cursor}
 use Rattle.clearing.specs.Slices.{lent}
-use Rattle.printing.specs.Written.{Wrote}
+use Rattle.printing.specs.declared.Writer.{Writer}
+use Rattle.printing.specs.Written.{Writes}
 use Rattle.entry_points.specs.Answers.{counts_of, Told, out, answered}
 use Rattle.entry_points.specs.declared.Counts.{Counts}
 
@@ -28,8 +29,9 @@ pub record Table (c : Counts) (w d : List ℕ) (v : List ℤ) : Type 0 where
   pub left : lent w d v ≡ left_in of (meant.accepted all)
 
 -- the listing of whatever table they hold
-pub record Lists (text : Bytes) (m : Model) (c : Counts) (w d : List ℕ) (v : List ℤ) (b : Bytes) (n : ℕ) (b' : Bytes) (n' : ℕ) : Type 0 where
-  pub of : (x : Table c w d v) → Wrote (listing text m x.all.table) b n b' n'
+pub record Lists (text : Bytes) (m : Model) (c : Counts) (w d : List ℕ) (v : List ℤ) (o o' : Writer) : Type 0 where
+  pub same : o'.buffer.ghost_name ≡ o.buffer.ghost_name
+  pub of : (x : Table c w d v) → Writes (listing text m x.all.table) o o'
 
 -- they are as a call with this outcome leaves them
 pub record Answered (model : ℕ) (text : Bytes) (r : Told) (w d : List ℕ) (v : List ℤ) : Type 0 where
@@ -38,5 +40,6 @@ pub record Answered (model : ℕ) (text : Bytes) (r : Told) (w d : List ℕ) (v 
   pub is : out r (lent w d v) ≡ answered of model entry text
 
 -- what is printed of whatever call that was
-pub record Prints (model : ℕ) (text : Bytes) (r : Told) (w d : List ℕ) (v : List ℤ) (b : Bytes) (n : ℕ) (b' : Bytes) (n' : ℕ) : Type 0 where
-  pub of : (l : Lent) (entry : meant.Entry) → out r (lent w d v) ≡ answered l model entry text → Wrote (printed_outcome model text (meant.outcome model (long_enough l) entry text)) b n b' n'
+pub record Prints (model : ℕ) (text : Bytes) (r : Told) (w d : List ℕ) (v : List ℤ) (o o' : Writer) : Type 0 where
+  pub same : o'.buffer.ghost_name ≡ o.buffer.ghost_name
+  pub of : (l : Lent) (entry : meant.Entry) → out r (lent w d v) ≡ answered l model entry text → Writes (printed_outcome model text (meant.outcome model (long_enough l) entry text)) o o'

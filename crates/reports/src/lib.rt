@@ -16,7 +16,7 @@ use encoding::regions::{SIGNEDS, WIDES, WORDS};
 use entry_points::{Counts, Outcome, declaration, translation_unit};
 use listing::put_listing;
 use model::Model;
-use printing::put_refused;
+use printing::{Writer, put_refused};
 use table::Cursor;
 
 // More than any listing has: that of an accepted text is at most `maxListing` bytes long (crate `listing_length`).
@@ -51,44 +51,43 @@ fn cursor_of(counts: Counts) -> Cursor
 
 // The slices may be longer than a table: it stands in their front.
 fn put_table(
-    out: &mut [u8],
+    out: &mut Writer<'_>,
     text: &[u8],
     m: Model,
     w: &[u32],
     d: &[u64],
     v: &[i64],
     counts: Counts,
-) -> usize
+)
     requires { Table counts w.now d.now v.now }
-    ensures { Lists text.now (model m) counts w.now d.now v.now out.old 0 out.new result }
+    ensures { Lists text.now (model m) counts w.now d.now v.now out.old out.new }
 {
     put_listing(
         out,
-        0,
         text,
         m,
         &w[..WORDS],
         &d[..WIDES],
         &v[..SIGNEDS],
         cursor_of(counts),
-    )
+    );
 }
 
 fn put_outcome(
-    out: &mut [u8],
+    out: &mut Writer<'_>,
     text: &[u8],
     number: u32,
     w: &[u32],
     d: &[u64],
     v: &[i64],
     outcome: Outcome,
-) -> usize
+)
     requires { Answered number text.now (told outcome) w.now d.now v.now }
-    ensures { Prints number text.now (told outcome) w.now d.now v.now out.old 0 out.new result }
+    ensures { Prints number text.now (told outcome) w.now d.now v.now out.old out.new }
 {
     match outcome {
         Ok(counts) => put_table(out, text, model_numbered(number), w, d, v, counts),
-        Err(e) => put_refused(out, 0, u32::from(e.reason), e.offset, e.line, e.column),
+        Err(e) => put_refused(out, u32::from(e.reason), e.offset, e.line, e.column),
     }
 }
 
@@ -105,7 +104,9 @@ pub fn report_unit(
     ensures signeds_after { lent words.new wides.new signeds.new ≡ left_in (lent words.old wides.old signeds.old) (outcome model (long_enough (lent words.old wides.old signeds.old)) wholeHeader text.now) }
 {
     let outcome = translation_unit(text, model, words, wides, signeds);
-    put_outcome(out, text, model, words, wides, signeds, outcome)
+    let mut writer = Writer { buffer: out, at: 0 };
+    put_outcome(&mut writer, text, model, words, wides, signeds, outcome);
+    writer.at
 }
 
 // The same of one declaration.
@@ -121,5 +122,7 @@ pub fn report_declaration(
     ensures signeds_after { lent words.new wides.new signeds.new ≡ left_in (lent words.old wides.old signeds.old) (outcome model (long_enough (lent words.old wides.old signeds.old)) singleDeclaration text.now) }
 {
     let outcome = declaration(text, model, words, wides, signeds);
-    put_outcome(out, text, model, words, wides, signeds, outcome)
+    let mut writer = Writer { buffer: out, at: 0 };
+    put_outcome(&mut writer, text, model, words, wides, signeds, outcome);
+    writer.at
 }

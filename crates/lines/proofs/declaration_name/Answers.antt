@@ -3,4 +3,4 @@ use Rattle.definition.specs.Table.{Declaration}
 use Rattle.lines.proofs.declaration_name.Goals as goal
 
 pub returns : goal.returns
-returns c = record { of = λ t h. ap (λ (x : Declaration). x.name) (c.declaration_at-found.ensures.of t h) }
+returns c = record { of = λ t h. ap (λ (x : Declaration). x.name) (c.declaration_at.ensures.of t h) }

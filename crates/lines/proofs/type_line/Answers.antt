@@ -1,9 +1,17 @@
-use borrow.Author.Rules.{rules}
-use mathlib.Core.Path.{◌∙◌}
 use Rattle.model.specs.Meaning.{model}
-use Rattle.printing.proofs.Writing.{same_length as same-long}
-use Rattle.lines.proofs.Entries.{type_line_is}
+use Rattle.printing.proofs.Writing.{keeps_written, keeps_both}
+use Rattle.lines.proofs.Entries.{type_line_is, extents}
 use Rattle.lines.proofs.type_line.Goals as goal
 
 pub returns : goal.returns
-returns c = record { kept = same-long c.put_byte.ensures ∙ (c.row_details-b.ensures.kept ∙ c.row_head-a.ensures.kept); of = λ t h. type_line_is (model c.args.m) t c.args.row _ (c.row_head-a.ensures.of t h) (c.row_details-b.ensures.of t (h.0, h.1.0)) c.put_byte.ensures }
+returns c = record {
+  kept = keeps_both (keeps_written c.put_head.ensures) (keeps_both (keeps_written c.put_details.ensures.written) (keeps_written c.end_line.ensures));
+  of = λ t h.
+      type_line_is _ (model c.args.m) t c.args.row _ _ _
+      (c.row_numbers-x.ensures.of t h.0 h.1)
+      (c.size_of-size.ensures.of t h.0 (extents h.1))
+      (c.align_of-align.ensures.of t h.0 (extents h.1) h.2)
+      c.put_head.ensures
+      c.put_details.ensures
+      c.end_line.ensures;
+}

@@ -1,22 +1,13 @@
-use borrow.Author.Rules.{rules}
-use native.Mathlib.Omega.{arith}
-use mathlib.Core.Path.{refl}
-use Prim.Native.Nat.{◌-◌}
-use lib.ListN.{drop}
-use Rattle.definition.specs.Lent.{flat}
-use Rattle.definition.specs.Listing.{decl_line}
-use Rattle.listing.specs.Listed.{HoldDeclarations}
-use Rattle.listing.proofs.Under.{LeftAs, starts, ends, goes_on, under, next-declaration, no_more_declarations}
+use Rattle.std.proofs.Common.{arith}
+use Rattle.listing.proofs.Under.{all_left, none_left, left_after, held_by}
+use Rattle.listing.proofs.Rows.{next-declaration, no_more_declarations}
 use Rattle.listing.proofs.decl_lines.Goals as goal
 
 pub loop-i-init : goal.loop-i-init
-loop-i-init c = starts (λ t h. refl)
+loop-i-init c = all_left
 
 pub loop-i-preserved : goal.loop-i-preserved
-loop-i-preserved c = goes_on c.loop-i.invariant (under c.decl_line-at.ensures (λ t h. h.0) (λ t h. refl)) (λ t h. next-declaration c.args.text.now t c.loop-i.i (omega (arith, h.1, c.loop-i-test.true)))
-
-pub shape_of-out : goal.shape_of-out
-shape_of-out c = c.loop-i.invariant.kept
+loop-i-preserved c = left_after c.loop-i.invariant (λ t h. next-declaration _ t c.loop-i.i (omega (arith, h.1, c.loop-i-test.true))) (held_by c.decl_line.ensures (λ t h. h.0))
 
 pub returns : goal.returns
-returns c = ends c.loop-i.invariant (λ t h. no_more_declarations c.args.text.now t c.loop-i.i (omega (arith, h.1, c.loop-i-test.false)))
+returns c = none_left c.loop-i.invariant (λ t h. no_more_declarations _ t c.loop-i.i (omega (arith, h.1, c.loop-i-test.false)))

@@ -1,26 +1,51 @@
-use borrow.Author.Rules.{rules}
-use mathlib.Core.Path.{sym, ap, ◌∙◌}
-use Prim.Native.Nat.{◌-◌}
+use Rattle.std.proofs.Common.{rules, refl, sym, ap, ◌∙◌, length, arith}
+use Rattle.table.specs.declared.Numbers.{Numbers}
+use Rattle.definition.specs.Listing.{member_line, value_line, param_line}
 use Rattle.definition.specs.Table.{row_at}
-use Rattle.lemmas.proofs.Branch.{yes, nay, eq_yes, eq_no}
-use Rattle.listing.specs.Listed.{lines_under}
-use Rattle.listing.proofs.Under.{under, lines-under}
-use Rattle.definition.specs.Row.{span_of}
-use Rattle.listing.proofs.Under.{wrote_nothing}
+use Rattle.table.specs.Held.{member_at, value_at, parameter_at, no_member, no_value, no_parameter}
+use Rattle.printing.proofs.Writing.{nothing, as_is, keeps_still}
+use Rattle.listing.proofs.Rows.{members-under, values-under, params-under, nothing-under}
+use Rattle.listing.proofs.Carried.{entries-listed}
 use Rattle.listing.proofs.sub_lines.Goals as goal
 
-pub returns-then-kind : goal.returns-then-kind
-unfolding lines_under
-returns-then-kind c = under c.member_lines.ensures (λ t e. (e.words, (e.wides, e.counts.members))) (λ t e. lines-under c.args.text.now t c.args.row (row_at t c.args.row) ∙ (ap (λ k. lines_under c.args.text.now c.args.row k (span_of (row_at t c.args.row)) t) (sym (c.row_kind-kind.ensures.of t e.words)) ∙ yes _ _ _ c.if-kind.true))
+pub returns-in-8 : goal.returns-in-8
+returns-in-8 c = record {
+  kept = c.entry_lines.ensures.kept (λ i p q l. search rules);
+  of = λ s h.
+      as_is
+      (c.entry_lines.ensures.of (λ i. (value_at s i).row) (λ i. value_line c.args.text.now (value_at s i))
+      (λ i k r. let w = h.words in search rules)
+      (λ i p q l. let w = h.words in let d = h.signeds in search rules))
+      (entries-listed (λ e. e.row) (value_line _) _ s.values no_value (ap (λ (y : Numbers). y.count) (c.row_numbers-x.ensures.of s h.words h.wides)) (ap (λ (y : Numbers). y.first) (c.row_numbers-x.ensures.of s h.words h.wides)) h.counts.values
+      ∙ sym (values-under _ s c.args.row (row_at s c.args.row) (ap (λ (y : Numbers). y.kind) (c.row_numbers-x.ensures.of s h.words h.wides)) c.in-8.is));
+}
 
-pub returns-then-kind-eq-ENUM_KIND : goal.returns-then-kind-eq-ENUM_KIND
-unfolding lines_under
-returns-then-kind-eq-ENUM_KIND c = under c.value_lines.ensures (λ t e. (e.words, (e.signeds, e.counts.values))) (λ t e. lines-under c.args.text.now t c.args.row (row_at t c.args.row) ∙ (ap (λ k. lines_under c.args.text.now c.args.row k (span_of (row_at t c.args.row)) t) (sym (c.row_kind-kind.ensures.of t e.words)) ∙ (nay _ _ _ c.if-kind.false ∙ eq_yes _ _ _ _ c.if-kind-eq-ENUM_KIND.true)))
+pub returns-in-9 : goal.returns-in-9
+returns-in-9 c = record {
+  kept = c.entry_lines-in-9.ensures.kept (λ i p q l. search rules);
+  of = λ s h.
+      as_is
+      (c.entry_lines-in-9.ensures.of (λ i. (parameter_at s i).row) (λ i. param_line c.args.text.now (parameter_at s i))
+      (λ i k r. let w = h.words in search rules)
+      (λ i p q l. let w = h.words in search rules))
+      (entries-listed (λ e. e.row) (param_line _) _ s.parameters no_parameter (ap (λ (y : Numbers). y.count) (c.row_numbers-x.ensures.of s h.words h.wides)) (ap (λ (y : Numbers). y.first) (c.row_numbers-x.ensures.of s h.words h.wides)) h.counts.parameters
+      ∙ sym (params-under _ s c.args.row (row_at s c.args.row) (ap (λ (y : Numbers). y.kind) (c.row_numbers-x.ensures.of s h.words h.wides)) c.in-9.is));
+}
 
-pub returns-then-kind-eq-FUNCTION_KIND : goal.returns-then-kind-eq-FUNCTION_KIND
-unfolding lines_under
-returns-then-kind-eq-FUNCTION_KIND c = under c.param_lines.ensures (λ t e. (e.words, e.counts.parameters)) (λ t e. lines-under c.args.text.now t c.args.row (row_at t c.args.row) ∙ (ap (λ k. lines_under c.args.text.now c.args.row k (span_of (row_at t c.args.row)) t) (sym (c.row_kind-kind.ensures.of t e.words)) ∙ (nay _ _ _ c.if-kind.false ∙ (eq_no _ _ _ _ c.if-kind-eq-ENUM_KIND.false ∙ eq_yes _ _ _ _ c.if-kind-eq-FUNCTION_KIND.true))))
+pub returns-then-x-lt6 : goal.returns-then-x-lt6
+returns-then-x-lt6 c = record { kept = keeps_still; of = λ s h. as_is nothing (sym (nothing-under _ s c.args.row (row_at s c.args.row) (ap (λ (y : Numbers). y.kind) (c.row_numbers-x.ensures.of s h.words h.wides)) (λ e. omega arith) (λ e. omega arith) (λ e. omega arith) (λ e. omega arith))) }
 
-pub returns : goal.returns
-unfolding lines_under
-returns c = under (wrote_nothing _ _) (λ t e. tt) (λ t e. lines-under c.args.text.now t c.args.row (row_at t c.args.row) ∙ (ap (λ k. lines_under c.args.text.now c.args.row k (span_of (row_at t c.args.row)) t) (sym (c.row_kind-kind.ensures.of t e.words)) ∙ (nay _ _ _ c.if-kind.false ∙ (eq_no _ _ _ _ c.if-kind-eq-ENUM_KIND.false ∙ eq_no _ _ _ _ c.if-kind-eq-FUNCTION_KIND.false))))
+pub returns-in-6 : goal.returns-in-6
+returns-in-6 c = record {
+  kept = c.entry_lines-in-6.ensures.kept (λ i p q l. search rules);
+  of = λ s h.
+      as_is
+      (c.entry_lines-in-6.ensures.of (λ i. (member_at s i).row) (λ i. member_line c.args.text.now (member_at s i))
+      (λ i k r. let w = h.words in search rules)
+      (λ i p q l. let w = h.words in let d = h.wides in search rules))
+      (entries-listed (λ e. e.row) (member_line _) _ s.members no_member (ap (λ (y : Numbers). y.count) (c.row_numbers-x.ensures.of s h.words h.wides)) (ap (λ (y : Numbers). y.first) (c.row_numbers-x.ensures.of s h.words h.wides)) h.counts.members
+      ∙ sym (members-under _ s c.args.row (row_at s c.args.row) (ap (λ (y : Numbers). y.kind) (c.row_numbers-x.ensures.of s h.words h.wides)) (omega arith) (omega arith)));
+}
+
+pub returns-else-x-lt8 : goal.returns-else-x-lt8
+returns-else-x-lt8 c = record { kept = keeps_still; of = λ s h. as_is nothing (sym (nothing-under _ s c.args.row (row_at s c.args.row) (ap (λ (y : Numbers). y.kind) (c.row_numbers-x.ensures.of s h.words h.wides)) (λ e. omega arith) (λ e. omega arith) (λ e. omega arith) (λ e. omega arith))) }

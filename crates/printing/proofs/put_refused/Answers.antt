@@ -5,4 +5,4 @@ use Rattle.printing.proofs.put_refused.Goals as goal
 
 pub returns : goal.returns
 unfolding refused_line bytes
-returns c = a-line c.put_bytes-a.ensures (a_word c.next_decimal-b.ensures (a_word c.next_decimal-c.ensures (a_word c.next_decimal-d.ensures (last_word c.next_decimal-e.ensures)))) c.put_byte.ensures
+returns c = a-line c.put.ensures (a_word c.next.ensures (a_word c.next-2.ensures (a_word c.next-3.ensures (last_word c.next-4.ensures)))) c.end_line.ensures

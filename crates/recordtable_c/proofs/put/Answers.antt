@@ -1,7 +1,6 @@
-use mathlib.Core.Path.{sym}
-use lib.Seq.{set_out}
-use borrow.Author.Rules.{rules}
+use Rattle.std.proofs.Common.{◌++◌, take, drop}
+use Rattle.recordtable_c.proofs.Numbers.{copied}
 use Rattle.recordtable_c.proofs.put.Goals as goal
 
-pub returns-else-i-answer : goal.returns-else-i-answer
-returns-else-i-answer c = sym (set_out _ _ _ c.if-i-answer.false)
+pub returns : goal.returns
+returns c = rw c.copy_from_slice.ensures.after (copied _ _ _ c.min-n.ensures)

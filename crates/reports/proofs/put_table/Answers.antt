@@ -1,5 +1,4 @@
-use borrow.Author.Rules.{rules}
-use mathlib.Core.Path.{sym}
+use Rattle.std.proofs.Common.{sym}
 use lib.Seq.{length-take-le}
 use Rattle.reports.proofs.Front.{words-there, wides-there, signeds-there, room, listed}
 use Rattle.definition.specs.Region.{words_length, wides_length}

@@ -1,5 +1,0 @@
-use Rattle.printing.proofs.Writing.{then}
-use Rattle.printing.proofs.next_name.Goals as goal
-
-pub returns : goal.returns
-returns c = then c.put_byte-at.ensures c.put_name.ensures
