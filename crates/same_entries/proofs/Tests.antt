@@ -1,20 +1,22 @@
 -- Entries compared number by number. Assumes nothing.
 use mathlib.Core.Path.{◌≡◌, refl, sym, ap, ◌∙◌}
-use mathlib.Core.Bool.{Bool, true, false, ◌&&◌}
+use mathlib.Core.Bool.{Bool, true, false, ◌&&◌, and_assoc}
 use mathlib.Core.List.{List}
 use Prim.Native.Nat.{ℕ, ◌+◌, ◌*◌, ◌<◌}
 use native.Mathlib.Omega.{arith}
-use lib.Dec.{eqb}
-use lib.IntN.{ℤ}
+use mir.Syntax.{w64}
+use mir.Facts.{to_z-of_z}
+use lib.Dec.{eqb, leb}
+use lib.IntN.{ℤ, pos, negsuc}
 use lib.Signed.{le_z}
-use borrow.Author.Tests.{eq-eqb, ne_eqb}
+use borrow.Author.Tests.{eqb-true, eqb-false, eq-eqb, ne_eqb, le-leb, leb-true}
 use lib.ListN.{length, get_or}
+use Rattle.std.proofs.Common.{SFits, of_z, to_z}
 use Rattle.definition.specs.Limit.{max_parameters}
-use Rattle.definition.specs.Table.{Table, Member, Value, Parameter}
+use Rattle.definition.specs.Table.{Table, Member}
+use Rattle.definition.specs.Types.{width_number, same_member}
 use Rattle.table.specs.Held.{InWords, parameter_at}
-use Rattle.definition.specs.Types.{width_number, same_member, same_value, same_parameter}
 use Rattle.definition.specs.Region.{words_length, parameters_at, declarations_at}
-use Rattle.lemmas.proofs.Truth.{not_first, not_second}
 use Rattle.table.proofs.Columns.{parameter-read}
 use Rattle.table.proofs.Regions.{words_long}
 
@@ -29,12 +31,46 @@ module _ {x y p q : ℕ} (x-is : x ≡ p) (y-is : y ≡ q) where
   pub test : eqb x y ≡ eqb p q
   test = ap (λ z. eqb z y) x-is ∙ ap (eqb p) y-is
 
--- a test that fails, and one that holds, in front of others
-pub fails : {a : Bool} (b : Bool) → a ≡ false → false ≡ (a && b)
-fails b e = sym (not_first b e)
-
+-- a test that holds, in front of others
 pub holds : {a b c : Bool} → a ≡ true → c ≡ b → c ≡ (a && b)
 holds e f = sym (rw (e, ← f))
+
+-- signed numbers by their bits
+le_both : (a b : ℤ) → (le_z a b && le_z b a) ≡ true → a ≡ b
+le_both (pos a) (pos b) e = ap pos (by (leb a b) (leb b a) refl refl e)
+  where
+    by : (s t : Bool) → leb a b ≡ s → leb b a ≡ t → (s && t) ≡ true → a ≡ b
+    by true true p q e = let x = leb-true a b p in let y = leb-true b a q in omega arith
+    by true false p q e = absurd (cc)
+    by false t p q e = absurd (cc)
+le_both (pos a) (negsuc b) e = absurd (cc)
+le_both (negsuc a) (pos b) e = absurd (cc)
+le_both (negsuc a) (negsuc b) e = ap negsuc (by (leb b a) (leb a b) refl refl e)
+  where
+    by : (s t : Bool) → leb b a ≡ s → leb a b ≡ t → (s && t) ≡ true → a ≡ b
+    by true true p q e = let x = leb-true b a p in let y = leb-true a b q in omega arith
+    by true false p q e = absurd (cc)
+    by false t p q e = absurd (cc)
+
+le_same : (a : ℤ) → (le_z a a && le_z a a) ≡ true
+le_same (pos a) = rw (le-leb a a (omega arith)) refl
+le_same (negsuc a) = rw (le-leb a a (omega arith)) refl
+
+pub same_bits : (a b : ℤ) → SFits w64 a → SFits w64 b → eqb (of_z w64 a) (of_z w64 b) ≡ (le_z a b && le_z b a)
+same_bits a b p q = by (eqb (of_z w64 a) (of_z w64 b)) (le_z a b && le_z b a) refl refl
+  where
+    by : (s t : Bool) → eqb (of_z w64 a) (of_z w64 b) ≡ s → (le_z a b && le_z b a) ≡ t → s ≡ t
+    by true true e f = refl
+    by false false e f = refl
+    by true false e f = let h : a ≡ b = sym (to_z-of_z p) ∙ (ap (to_z w64) (eqb-true _ _ e) ∙ to_z-of_z q) in sym (le_same b) ∙ rw h at f
+    by false true e f = absurd (eqb-false _ _ e (ap (of_z w64) (le_both a b f)))
+
+-- a member's tests in the order of the code
+pub four : (a b : Member) → (eqb a.type b.type && eqb a.name b.name && eqb (width_number a.width) (width_number b.width) && eqb a.offset b.offset) ≡ same_member a b
+unfolding same_member
+four a b =
+    let w : Bool = eqb (width_number a.width) (width_number b.width) in
+    and_assoc (eqb a.type b.type && eqb a.name b.name) w (eqb a.offset b.offset) ∙ and_assoc (eqb a.type b.type) (eqb a.name b.name) (w && eqb a.offset b.offset)
 
 -- a parameter's numbers as they stand in the slice
 module _ {t : Table} {w : List ℕ} (h : InWords t w) (i : ℕ) (p : i < max_parameters) where
@@ -50,46 +86,3 @@ all-parameters {t} {w} h p = let e : length w ≡ words_length = rw h.are (words
 
 pub no_more : {t : Table} {w : List ℕ} {n : ℕ} → InWords t w → n ≡ length t.parameters → max_parameters < n → ⊥
 no_more h e p = omega (arith, h.fits.parameters)
-
-module _ (a b : Parameter) {x y : ℕ} (x-is : x ≡ a.type) (y-is : y ≡ b.type) where
-  pub parameter_type_no : (x ≡ y → ⊥) → false ≡ same_parameter a b
-  unfolding same_parameter
-  parameter_type_no f = fails (eqb a.name b.name) (unequal x-is y-is f)
-
-  pub parameter_so : {m n : ℕ} → x ≡ y → m ≡ a.name → n ≡ b.name → eqb m n ≡ same_parameter a b
-  unfolding same_parameter
-  parameter_so e m-is n-is = holds (equal x-is y-is e) (test m-is n-is)
-
-module _ (a b : Member) where
-  module _ {x y : ℕ} (x-is : x ≡ a.type) (y-is : y ≡ b.type) where
-    pub member_type_no : (x ≡ y → ⊥) → false ≡ same_member a b
-    unfolding same_member
-    member_type_no f = fails (eqb a.name b.name && (eqb (width_number a.width) (width_number b.width) && eqb a.offset b.offset)) (unequal x-is y-is f)
-
-    pub member_so : {m n k l o r : ℕ} → x ≡ y → m ≡ a.name → n ≡ b.name → m ≡ n → k ≡ width_number a.width → l ≡ width_number b.width → k ≡ l → o ≡ a.offset → r ≡ b.offset → eqb o r ≡ same_member a b
-    unfolding same_member
-    member_so e m-is n-is f k-is l-is g o_is r-is = holds (equal x-is y-is e) (holds (equal m-is n-is f) (holds (equal k-is l-is g) (test o_is r-is)))
-
-  module _ {x y : ℕ} (x-is : x ≡ a.name) (y-is : y ≡ b.name) where
-    pub member_name_no : (x ≡ y → ⊥) → false ≡ same_member a b
-    unfolding same_member
-    member_name_no f = sym (not_second (eqb a.type b.type) (not_first (eqb (width_number a.width) (width_number b.width) && eqb a.offset b.offset) (unequal x-is y-is f)))
-
-  module _ {x y : ℕ} (x-is : x ≡ width_number a.width) (y-is : y ≡ width_number b.width) where
-    pub member_width_no : (x ≡ y → ⊥) → false ≡ same_member a b
-    unfolding same_member
-    member_width_no f = sym (not_second (eqb a.type b.type) (not_second (eqb a.name b.name) (not_first (eqb a.offset b.offset) (unequal x-is y-is f))))
-
-module _ (a b : Value) {x y : ℕ} (x-is : x ≡ a.name) (y-is : y ≡ b.name) where
-  pub value_name_no : (x ≡ y → ⊥) → false ≡ same_value a b
-  unfolding same_value
-  value_name_no f = fails (le_z a.value b.value && le_z b.value a.value) (unequal x-is y-is f)
-
-  module _ (e : x ≡ y) {m n : ℤ} (m-is : m ≡ a.value) (n-is : n ≡ b.value) where
-    pub value_so : le_z m n ≡ true → le_z n m ≡ same_value a b
-    unfolding same_value
-    value_so f = holds (equal x-is y-is e) (holds (rw (m-is, n-is) at f) (ap (λ z. le_z z m) n-is ∙ ap (le_z b.value) m-is))
-
-    pub value_no : le_z m n ≡ false → false ≡ same_value a b
-    unfolding same_value
-    value_no f = sym (not_second (eqb a.name b.name) (not_first (le_z b.value a.value) (rw (m-is, n-is) at f)))
