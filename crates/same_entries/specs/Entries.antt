@@ -1,8 +1,12 @@
 -- What is told of the entries of two lists.
-use Rattle.std.specs.Prelude.{◌≡◌, Bool, List, Option, MatchOption, ℕ, ◌≤◌, ◌<◌, ℤ, length, get_or, drop}
+use Rattle.std.specs.Prelude.{◌≡◌, Bool, false, List, Option, MatchOption, ℕ, ◌≤◌, ◌<◌, ℤ, length, get_or, drop}
 use Rattle.definition.specs.Table.{Table, Member, Value, Parameter, carrying}
 use Rattle.definition.specs.Types.{pairwise}
 use Rattle.table.specs.Held.{InWords, InWides, InSigneds}
+
+-- where r is true the words hold no table
+abbrev pub NoTable : List ℕ → Bool → Type 0
+NoTable w r = (t : Table) → InWords t w → r ≡ false
 
 -- what was read of each entry from one on is another row
 abbrev pub Others : (ℕ → ℕ → Type 0) → ℕ → ℕ → ℕ → Type 0

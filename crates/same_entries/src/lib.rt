@@ -1,24 +1,27 @@
 #![tactic(auto)]
 // The entries of two lists compared: "rows are equal as the Rust's types are", entry by entry. The entries of a list are the first so many, from
 // its first on, that carry its row, or its mark while the row is not known.
-ghost use Rattle.std.specs.Prelude.{◌≤◌, ◌<◌, length, drop};
-ghost use Rattle.definition.specs.Limit.{max_parameters};
+ghost use Rattle.std.specs.Prelude.{drop};
 ghost use Rattle.definition.specs.Table.{carrying};
 ghost use Rattle.definition.specs.Types.{pairwise, same_member, same_value, same_parameter};
-ghost use Rattle.definition.specs.Region.{declarations_at};
 ghost use Rattle.table.specs.Held.{member_at, value_at, parameter_at};
-ghost use Rattle.same_entries.specs.Entries.{Next, Pairs, MembersSay, ValuesSay, ParametersSay, MembersCompare, ValuesCompare, ParametersCompare};
+ghost use Rattle.same_entries.specs.Entries.{NoTable, Next, Pairs, MembersSay, ValuesSay, ParametersSay, MembersCompare, ValuesCompare, ParametersCompare};
 
-use encoding::regions::{
-    DECLARATIONS_AT, PARAMETER_COLUMNS, PARAMETER_NAME, PARAMETER_TYPE, PARAMETERS_AT,
-};
+use encoding::regions::WORDS;
 use model::Model;
 use table::{
-    member_name, member_offset, member_row, member_type, member_width, parameter_row, value_at,
-    value_name, value_row,
+    member_name, member_offset, member_row, member_type, member_width, parameter_name,
+    parameter_row, parameter_type, value_at, value_name, value_row,
 };
 
 // ---- lists of any kind
+
+// No table stands in a shorter slice, or has more entries than the limit. Where both are tested once, no later read tests its index.
+fn is_short(w: &[u32]) -> bool
+    ensures { NoTable w.now result }
+{
+    w.len() < WORDS
+}
 
 // The first entry from a number on that carries a row.
 fn next_entry<R: Fn(usize) -> u32>(row_of: &R, count: usize, from: usize, row: u32) -> Option<usize>
@@ -40,7 +43,7 @@ fn same_lists<R: Fn(usize) -> u32, S: Fn(usize, usize) -> bool>(
     entries: u32,
 ) -> bool
     requires reads { (i : _) → R.pre row_of i }
-    requires compares { (a b : _) → a < count → b < count → S.pre same a b }
+    requires compares { (a b : _) → S.pre same a b }
     ensures { Pairs (R.post row_of) (S.post same) count mark first row other entries result }
 {
     let mut i = first;
@@ -63,13 +66,14 @@ fn same_lists<R: Fn(usize) -> u32, S: Fn(usize, usize) -> bool>(
 
 // ---- members
 
+#[tactic(auto, unfolding(definition::specs::Types::same_member))]
 fn same_member(w: &[u32], d: &[u64], a: usize, b: usize) -> bool
     ensures { MembersSay (λ t. same_member (member_at t a) (member_at t b)) w.now d.now result }
 {
-    (member_type(w, a) == member_type(w, b))
-        & (member_name(w, a) == member_name(w, b))
-        & (member_width(w, a) == member_width(w, b))
-        & (member_offset(d, a) == member_offset(d, b))
+    member_type(w, a) == member_type(w, b)
+        && (member_name(w, a) == member_name(w, b)
+            && (member_width(w, a) == member_width(w, b)
+                && member_offset(d, a) == member_offset(d, b)))
 }
 
 pub fn same_members(
@@ -84,6 +88,12 @@ pub fn same_members(
 ) -> bool
     ensures { MembersCompare count (λ t. pairwise same_member (carrying (λ e. e.row) mark entries (drop first t.members)) (carrying (λ e. e.row) row entries (drop other t.members))) w.now d.now result }
 {
+    if Model::MAX_MEMBERS < count {
+        return false;
+    }
+    if is_short(w) {
+        return false;
+    }
     same_lists(
         |i| member_row(w, i),
         |a, b| same_member(w, d, a, b),
@@ -98,10 +108,11 @@ pub fn same_members(
 
 // ---- values
 
+#[tactic(auto, unfolding(definition::specs::Types::same_value))]
 fn same_value(w: &[u32], v: &[i64], a: usize, b: usize) -> bool
     ensures { ValuesSay (λ t. same_value (value_at t a) (value_at t b)) w.now v.now result }
 {
-    (value_name(w, a) == value_name(w, b)) & (value_at(v, a) == value_at(v, b))
+    value_name(w, a) == value_name(w, b) && value_at(v, a) == value_at(v, b)
 }
 
 pub fn same_values(
@@ -116,6 +127,12 @@ pub fn same_values(
 ) -> bool
     ensures { ValuesCompare count (λ t. pairwise same_value (carrying (λ e. e.row) mark entries (drop first t.values)) (carrying (λ e. e.row) row entries (drop other t.values))) w.now v.now result }
 {
+    if Model::MAX_VALUES < count {
+        return false;
+    }
+    if is_short(w) {
+        return false;
+    }
     same_lists(
         |i| value_row(w, i),
         |a, b| same_value(w, v, a, b),
@@ -130,20 +147,13 @@ pub fn same_values(
 
 // ---- parameters
 
-// In a slice that has all parameters.
+#[tactic(auto, unfolding(definition::specs::Types::same_parameter))]
 fn same_parameter(w: &[u32], a: usize, b: usize) -> bool
-    requires a_lt_max_parameters { a < max_parameters }
-    requires b_lt_max_parameters { b < max_parameters }
-    requires declarations_at_in_bounds { declarations_at ≤ length w.now }
     ensures { ParametersSay (λ t. same_parameter (parameter_at t a) (parameter_at t b)) w.now result }
 {
-    let p = PARAMETERS_AT + PARAMETER_COLUMNS * a;
-    let q = PARAMETERS_AT + PARAMETER_COLUMNS * b;
-    (w[p + PARAMETER_TYPE] == w[q + PARAMETER_TYPE])
-        & (w[p + PARAMETER_NAME] == w[q + PARAMETER_NAME])
+    parameter_type(w, a) == parameter_type(w, b) && parameter_name(w, a) == parameter_name(w, b)
 }
 
-// No table has more parameters than the limit, or stands in a slice shorter than all.
 pub fn same_parameters(
     w: &[u32],
     count: usize,
@@ -158,7 +168,7 @@ pub fn same_parameters(
     if Model::MAX_PARAMETERS < count {
         return false;
     }
-    if w.len() < DECLARATIONS_AT {
+    if is_short(w) {
         return false;
     }
     same_lists(
