@@ -147,11 +147,12 @@ pub fn same_values(
 
 // ---- parameters
 
+// Both numbers stand side by side: two reads cost less than a branch.
 #[tactic(auto, unfolding(definition::specs::Types::same_parameter))]
 fn same_parameter(w: &[u32], a: usize, b: usize) -> bool
     ensures { ParametersSay (λ t. same_parameter (parameter_at t a) (parameter_at t b)) w.now result }
 {
-    parameter_type(w, a) == parameter_type(w, b) && parameter_name(w, a) == parameter_name(w, b)
+    (parameter_type(w, a) == parameter_type(w, b)) & (parameter_name(w, a) == parameter_name(w, b))
 }
 
 pub fn same_parameters(
