@@ -22,6 +22,7 @@ const WIDTH_ZERO: u32 = 1;
 
 // ---- kinds of entries
 
+// A kind of entries: how many there are, and the row that each carries.
 trait Entries {
     ghost Entry: { Type 0 };
 
@@ -59,7 +60,7 @@ impl Entries for Members {
     }
 }
 
-// Members of width 0, which are no fields: of the others none is said to carry a row.
+// Members of width 0, which are no fields; the others count as carrying no row.
 struct ZeroWidths;
 
 impl Entries for ZeroWidths {
