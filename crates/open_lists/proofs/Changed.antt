@@ -1,9 +1,7 @@
--- Entries changed from a number on, one after the other. Assumes nothing.
+-- Entries changed from a number on, one after the other, and counted. Assumes nothing.
 use mathlib.Core.Path.{◌≡◌, refl, sym, ap, subst, ◌∙◌}
-use mathlib.Core.Bool.{Bool, true, false, ◌&&◌, not}
-use mathlib.Core.Option.{Option, none, some}
+use mathlib.Core.Bool.{Bool, true, false}
 use mathlib.Core.List.{List, [], ◌∷◌}
-use mathlib.Mathlib.Data.Bool.Basic.{and_intro}
 use Prim.Native.Nat.{ℕ, zero, suc, ◌+◌, ◌≤◌, ◌<◌}
 use native.Mathlib.Omega.{arith}
 use native.Mathlib.Numerals.{add-one}
@@ -11,16 +9,16 @@ use lib.Dec.{eqb}
 use lib.IntN.{ℤ}
 use lib.ListN.{length, get_or, set, drop, drop_of_length-le}
 use borrow.Author.Tests.{eq-eqb, ne_eqb}
-use Rattle.definition.specs.Table.{Table, Member, Value, Parameter, with_members, with_values, with_parameters}
-use Rattle.definition.specs.Types.{width_number, changed_if, changed_from}
-use Rattle.definition.specs.Composite.{is_field, how_many_carry}
+use Rattle.definition.specs.Table.{Table, Member}
+use Rattle.definition.specs.Types.{changed_if, changed_from}
+use Rattle.definition.specs.Composite.{how_many_carry}
 use Rattle.lemmas.proofs.Lists.{drop-next}
-use Rattle.table.specs.Held.{no_member, no_value, no_parameter, Counts, InWords, Encodes}
+use Rattle.table.specs.Held.{no_member, Encodes}
 use Rattle.table.specs.Reply.{WordIs}
 use Rattle.table.specs.Store.{ChangesWords}
 use Rattle.lemmas.proofs.Branch.{yes, nay, eq_yes, eq_no}
-use Rattle.lemmas.proofs.Truth.{not_first, not_second}
 use Rattle.table.specs.declared.Cursor.{Cursor}
+use Rattle.open_lists.specs.Owning.{Kind, rerowed, released, Tells}
 
 module _ {E : Type 0} (test : E → Bool) (change : E → E) (blank : E) where
   next-hit : (es : List E) (i : ℕ) → i < length es → test (get_or es i blank) ≡ true → changed_from test change i es ≡ changed_from test change (suc i) (set es i (change (get_or es i blank)))
@@ -35,132 +33,66 @@ module _ {E : Type 0} (test : E → Bool) (change : E → E) (blank : E) where
   next-miss (e ∷ es) zero p q = ap (λ b. changed_if b change e ∷ changed_from test change 0 es) q
   next-miss (e ∷ es) (suc i) p q = ap (λ l. e ∷ l) (next-miss es i (omega arith) q)
 
-  pub none_left : (es : List E) (i : ℕ) → length es ≤ i → changed_from test change i es ≡ es
+  none_left : (es : List E) (i : ℕ) → length es ≤ i → changed_from test change i es ≡ es
   unfolding changed_from
   none_left [] i p = refl
   none_left (e ∷ es) zero p = absurd (omega arith)
   none_left (e ∷ es) (suc i) p = ap (λ l. e ∷ l) (none_left es i (omega arith))
 
--- One kind of entries of a table: which they are, the table with others, an entry past the last, and how many the cursor counts.
-pub record Kind (E : Type 0) : Type 0 where
-  pub of : Table → List E
-  pub with : Table → List E → Table
-  pub blank : E
-  pub count : Cursor → ℕ
-  pub put : (t : Table) (es : List E) → of (with t es) ≡ es
-  pub again : (t : Table) (es fs : List E) → with (with t es) fs ≡ with t fs
-  pub same : (t : Table) → with t (of t) ≡ t
-  pub counts : (t : Table) (c : Cursor) → Counts t c → count c ≡ length (of t)
+module _ {E : Type 0} (k : Kind E) (old row : ℕ) where
+  -- the rest changed in a table with other entries
+  after : (i : ℕ) (t : Table) (es : List E) {c : Cursor} {w d : List ℕ} {v : List ℤ} → Encodes (rerowed k (i + 1) old row (k.with t es)) c w d v → Encodes (k.with t (changed_from (λ e. k.carries e old) (λ e. k.with_row e row) (i + 1) es)) c w d v
+  after i t es {c} {w} {d} {v} x =
+      subst (λ u. Encodes u c w d v) (ap (λ l. k.with (k.with t es) (changed_from (λ e. k.carries e old) (λ e. k.with_row e row) (i + 1) l)) (k.put t es) ∙ k.again t es (changed_from (λ e. k.carries e old) (λ e. k.with_row e row) (i + 1) es)) x
 
-abbrev pub members : Kind Member
-members = record { of = λ t. t.members; with = with_members; blank = no_member; count = λ c. c.members; put = λ t es. refl; again = λ t es fs. refl; same = λ t. refl; counts = λ t c h. h.members }
+  module _ {c : Cursor} {i : ℕ} where
+    module _ {w w' : List ℕ} (more : i < k.count c) where
+      -- entry i carries the row, and w₁ is what the words are when it has the other
+      pub hit : {w₁ : List ℕ} → Tells (λ t. k.carries (get_or (k.of t) i k.blank) old) w true → ChangesWords (λ t. k.with t (set (k.of t) i (k.with_row (get_or (k.of t) i k.blank) row))) c w w₁
+          → ChangesWords (rerowed k (i + 1) old row) c w₁ w' → ChangesWords (rerowed k i old row) c w w'
+      hit is f g = record {
+        with = λ d v. record {
+          run = λ t h.
+              let n = k.counts t c h.counts in
+              subst (λ l. Encodes (k.with t l) c w' d v) (sym (rw add-one (next-hit (λ e. k.carries e old) (λ e. k.with_row e row) k.blank (k.of t) i (omega arith) (sym (is.of t h.words)))))
+              (after i t (set (k.of t) i (k.with_row (get_or (k.of t) i k.blank) row)) ((g.with d v).run _ ((f.with d v).run t h)));
+        };
+      }
 
-abbrev pub values : Kind Value
-values = record { of = λ t. t.values; with = with_values; blank = no_value; count = λ c. c.values; put = λ t es. refl; again = λ t es fs. refl; same = λ t. refl; counts = λ t c h. h.values }
+      pub miss : Tells (λ t. k.carries (get_or (k.of t) i k.blank) old) w false → ChangesWords (rerowed k (i + 1) old row) c w w' → ChangesWords (rerowed k i old row) c w w'
+      miss is g = record {
+        with = λ d v. record {
+          run = λ t h.
+              let n = k.counts t c h.counts in
+              subst (λ l. Encodes (k.with t l) c w' d v) (sym (rw add-one (next-miss (λ e. k.carries e old) (λ e. k.with_row e row) k.blank (k.of t) i (omega arith) (sym (is.of t h.words))))) ((g.with d v).run t h);
+        };
+      }
 
-abbrev pub parameters : Kind Parameter
-parameters = record { of = λ t. t.parameters; with = with_parameters; blank = no_parameter; count = λ c. c.parameters; put = λ t es. refl; again = λ t es fs. refl; same = λ t. refl; counts = λ t c h. h.parameters }
-
--- Of a table the entries from i on are still to be changed.
-pub record Reached {E : Type 0} (k : Kind E) (test : E → Bool) (change : E → E) (t : Table) (first i : ℕ) (c : Cursor) (w d : List ℕ) (v : List ℤ) : Type 0 where
-  pub entries : List E
-  pub holds : Encodes (k.with t entries) c w d v
-  pub same : changed_from test change first (k.of t) ≡ changed_from test change i entries
-
--- The same of whatever table the words were of.
-pub record Changing {E : Type 0} (k : Kind E) (test : E → Bool) (change : E → E) (first i : ℕ) (c : Cursor) (w₀ w : List ℕ) : Type 0 where
-  pub to : (t : Table) (d : List ℕ) (v : List ℤ) → Encodes t c w₀ d v → Reached k test change t first i c w d v
-
-module _ {E : Type 0} (k : Kind E) (test : E → Bool) (change : E → E) {first : ℕ} {c : Cursor} {w₀ : List ℕ} where
-  pub starts : Changing k test change first first c w₀ w₀
-  starts = record { to = λ t d v h. record { entries = k.of t; holds = rw (k.same t) h; same = refl } }
-
-  module _ {i : ℕ} {w : List ℕ} (g : Changing k test change first i c w₀ w) where
-    -- the table so far has as many entries
-    long : {t : Table} {d : List ℕ} {v : List ℤ} (r : Reached k test change t first i c w d v) → k.count c ≡ length r.entries
-    long {t} r = k.counts _ c r.holds.counts ∙ ap length (k.put t r.entries)
-
-    -- entry i passes the test and was changed; w₁ is what the words are then
-    pub hit : {w' w₁ : List ℕ} → i < k.count c → ((t : Table) → InWords t w → test (get_or (k.of t) i k.blank) ≡ true)
-        → ChangesWords (λ t. k.with t (set (k.of t) i (change (get_or (k.of t) i k.blank)))) c w w' → w₁ ≡ w' → Changing k test change first (i + 1) c w₀ w₁
-    hit {w'} p is f e = rw e (record { to = λ t d v h. go t d v (g.to t d v h) })
-      where
-        go : (t : Table) (d : List ℕ) (v : List ℤ) → Reached k test change t first i c w d v → Reached k test change t first (i + 1) c w' d v
-        go t d v r =
-            let l = long r in
-            let q = is _ r.holds.words in
-            let x = (f.with d v).run _ r.holds in
-            record {
-              entries = set r.entries i (change (get_or r.entries i k.blank));
-              holds = rw (k.put t r.entries, k.again t r.entries _) at x;
-              same = r.same ∙ rw add-one (next-hit test change k.blank r.entries i (omega arith) (rw (k.put t r.entries) at q));
-            }
-
-    pub miss : {w₁ : List ℕ} → i < k.count c → ((t : Table) → InWords t w → test (get_or (k.of t) i k.blank) ≡ false) → w₁ ≡ w → Changing k test change first (i + 1) c w₀ w₁
-    miss p is e = rw e (record { to = λ t d v h. go t d v (g.to t d v h) })
-      where
-        go : (t : Table) (d : List ℕ) (v : List ℤ) → Reached k test change t first i c w d v → Reached k test change t first (i + 1) c w d v
-        go t d v r =
-            let l = long r in
-            let q = is _ r.holds.words in
-            record { entries = r.entries; holds = r.holds; same = r.same ∙ rw add-one (next-miss test change k.blank r.entries i (omega arith) (rw (k.put t r.entries) at q)) }
-
-    pub ends : k.count c ≤ i → ChangesWords (λ t. k.with t (changed_from test change first (k.of t))) c w₀ w
-    ends p = record { with = λ d v. record { run = λ t h. go t d v (g.to t d v h) } }
-      where
-        go : (t : Table) (d : List ℕ) (v : List ℤ) → Reached k test change t first i c w d v → Encodes (k.with t (changed_from test change first (k.of t))) c w d v
-        go t d v r = let l = long r in rw (r.same ∙ none_left test change k.blank r.entries i (omega arith)) r.holds
-
--- no entry is from there on
-pub past : {E : Type 0} (k : Kind E) (test : E → Bool) (change : E → E) {first : ℕ} {c : Cursor} {w : List ℕ} → k.count c ≤ first
-    → ChangesWords (λ t. k.with t (changed_from test change first (k.of t))) c w w
-past k test change p = ends k test change (starts k test change) p
+    -- no entry is from there on
+    pub ends : {w : List ℕ} → k.count c ≤ i → ChangesWords (rerowed k i old row) c w w
+    ends {w} p = record {
+      with = λ d v. record {
+        run = λ t h.
+            let n = k.counts t c h.counts in
+            subst (λ l. Encodes (k.with t l) c w d v) (sym (none_left (λ e. k.carries e old) (λ e. k.with_row e row) k.blank (k.of t) i (omega arith))) (rw (k.same t) h);
+      };
+    }
 
 -- entries of a row that has some, and of one that has none
-module _ {E : Type 0} (k : Kind E) (test : E → Bool) (change : E → E) (count : Table → ℕ) where
-  abbrev released : Table → Table
-  released t = k.with t (elim (eqb (count t) 0) as (λ b. List E) [ true ↦ k.of t | false ↦ changed_from test change 0 (k.of t) ])
+module _ {E : Type 0} (k : Kind E) (n : ℕ) {count : Table → ℕ} {c : Cursor} {w : List ℕ} {r : ℕ} (is : WordIs count w r) where
+  pub released-some : {w' : List ℕ} → (r ≡ 0 → ⊥) → ChangesWords (rerowed k 0 n 0) c w w' → ChangesWords (λ t. released k n (count t) t) c w w'
+  released-some {w'} p f = record {
+    with = λ d v. record {
+      run = λ t h. subst (λ l. Encodes (k.with t l) c w' d v) (sym (eq_no (count t) 0 (k.of t) (changed_from (λ e. k.carries e n) (λ e. k.with_row e 0) 0 (k.of t)) (λ e. p (is.of t h.words ∙ e)))) ((f.with d v).run t h);
+    };
+  }
 
-  module _ {c : Cursor} {w : List ℕ} {r : ℕ} (is : WordIs count w r) where
-    pub released-some : {w' : List ℕ} → (r ≡ 0 → ⊥) → ChangesWords (λ t. k.with t (changed_from test change 0 (k.of t))) c w w' → ChangesWords released c w w'
-    released-some {w'} p f = record {
-      with = λ d v. record {
-        run = λ t h.
-            subst (λ l. Encodes (k.with t l) c w' d v) (sym (eq_no (count t) 0 (k.of t) (changed_from test change 0 (k.of t)) (λ e. p (is.of t h.words ∙ e)))) ((f.with d v).run t h);
-      };
-    }
-
-    pub released-none : r ≡ 0 → ChangesWords released c w w
-    released-none p = record {
-      with = λ d v. record {
-        run = λ t h.
-            subst (λ l. Encodes (k.with t l) c w d v) (sym (eq_yes (count t) 0 (k.of t) (changed_from test change 0 (k.of t)) (sym (is.of t h.words) ∙ p))) (rw (k.same t) h);
-      };
-    }
-
--- the number of a width is 1 where it is 0
-no_field : (o : Option ℕ) → width_number o ≡ 1 → not (is_field o) ≡ true
-no_field none e = absurd (omega arith)
-no_field (some zero) e = refl
-no_field (some (suc n)) e = absurd (omega arith)
-
-a-field : (o : Option ℕ) → (width_number o ≡ 1 → ⊥) → not (is_field o) ≡ false
-a-field none e = refl
-a-field (some zero) e = absurd (e refl)
-a-field (some (suc n)) e = refl
-
-module _ (e : Member) (mark : ℕ) {r n : ℕ} (r-is : r ≡ e.row) (n-is : n ≡ width_number e.width) where
-  abbrev dropped : Bool
-  dropped = eqb e.row mark && not (is_field e.width)
-
-  pub drops : r ≡ mark → n ≡ 1 → dropped ≡ true
-  drops p q = and_intro (eq-eqb e.row mark (sym r-is ∙ p)) (no_field e.width (sym n-is ∙ q))
-
-  pub keeps : (n ≡ 1 → ⊥) → dropped ≡ false
-  keeps q = not_second (eqb e.row mark) (a-field e.width (λ x. q (n-is ∙ x)))
-
-pub passes : (e : Member) (mark : ℕ) {r : ℕ} → r ≡ e.row → (r ≡ mark → ⊥) → (eqb e.row mark && not (is_field e.width)) ≡ false
-passes e mark r-is p = not_first (not (is_field e.width)) (ne_eqb e.row mark (λ x. p (r-is ∙ x)))
+  pub released-none : r ≡ 0 → ChangesWords (λ t. released k n (count t) t) c w w
+  released-none p = record {
+    with = λ d v. record {
+      run = λ t h. subst (λ l. Encodes (k.with t l) c w d v) (sym (eq_yes (count t) 0 (k.of t) (changed_from (λ e. k.carries e n) (λ e. k.with_row e 0) 0 (k.of t)) (sym (is.of t h.words) ∙ p))) (rw (k.same t) h);
+    };
+  }
 
 -- the entries that carry a mark, counted from entry i on
 module _ (mark : ℕ) (es : List Member) (i : ℕ) where

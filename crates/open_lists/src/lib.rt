@@ -1,15 +1,15 @@
 #![tactic(auto)]
 // Entries get their row. While a list is read its entries carry the mark of the list; then they get the row that it is of, or row 0.
-ghost use Rattle.std.specs.Prelude.{◌≡◌, eqb, length, drop};
-ghost use Rattle.definition.specs.Table.{row_at, with_members, with_values, with_parameters, mark_of};
-ghost use Rattle.definition.specs.Types.{changed_from};
+ghost use Rattle.std.specs.Prelude.{◌≡◌, length, get_or, set, drop};
+ghost use Rattle.definition.specs.Table.{Member, Value, Parameter, row_at, with_members, with_values, with_parameters, mark_of};
+ghost use Rattle.definition.specs.Row.{span_of};
 ghost use Rattle.definition.specs.Composite.{own_members, fields_only, release_members, how_many_carry};
 ghost use Rattle.definition.specs.Enumeration.{own_values, release_values};
 ghost use Rattle.definition.specs.Declarator.{own_parameters};
 ghost use Rattle.definition.specs.Region.{words_length};
 ghost use Rattle.table.specs.Held.{Room};
 ghost use Rattle.table.specs.Store.{ChangesWords};
-ghost use Rattle.open_lists.specs.Owning.{member_rerowed, value_rerowed, parameter_rerowed, Counted};
+ghost use Rattle.open_lists.specs.Owning.{Kind, members, zero_widths, values, parameters, rerowed, released, Tells, Counted};
 
 use encoding::regions::{NO_ROW, OPEN_LIST};
 use table::{
@@ -20,63 +20,167 @@ use table::{
 // The number of a bit-field's width 0: one more than it.
 const WIDTH_ZERO: u32 = 1;
 
-// ---- members
+// ---- kinds of entries
 
-// The members, from a number on, that carry a row get another.
-fn rerow_members(w: &mut [u32], c: Cursor, from: usize, old: u32, row: u32)
-    requires { (length w.old ≡ words_length) × Room c }
-    ensures { ChangesWords (λ t. with_members t (changed_from (λ e. eqb e.row old) (λ e. member_rerowed e row) from t.members)) c w.old w.new }
-{
-    let count = c.members;
-    let mut i = from;
-    while i < count {
-        if member_row(w, i) == old {
-            set_member_row(w, c, i, row);
-        }
-        i = i + 1;
+// A kind of entries: how many there are, and the row that each carries.
+trait Entries {
+    ghost Entry: { Type 0 };
+
+    ghost kind: { Kind Entry };
+
+    fn count(c: Cursor) -> usize
+        ensures { result ≡ kind.count c };
+
+    // Entry i carries a row.
+    fn carries(w: &[u32], i: usize, row: u32) -> bool
+        ensures { Tells (λ t. kind.carries (get_or (kind.of t) i kind.blank) row) w.now result };
+
+    fn set_row(w: &mut [u32], c: Cursor, i: usize, row: u32)
+        requires { (length w.old ≡ words_length) × Room c }
+        ensures { ChangesWords (λ t. kind.with t (set (kind.of t) i (kind.with_row (get_or (kind.of t) i kind.blank) row))) c w.old w.new };
+}
+
+struct Members;
+
+impl Entries for Members {
+    ghost Entry = { Member };
+
+    ghost kind = { members };
+
+    fn count(c: Cursor) -> usize {
+        c.members
+    }
+
+    fn carries(w: &[u32], i: usize, row: u32) -> bool {
+        member_row(w, i) == row
+    }
+
+    fn set_row(w: &mut [u32], c: Cursor, i: usize, row: u32) {
+        set_member_row(w, c, i, row);
     }
 }
 
+// Members of width 0, which are no fields; the others count as carrying no row.
+struct ZeroWidths;
+
+impl Entries for ZeroWidths {
+    ghost Entry = { Member };
+
+    ghost kind = { zero_widths };
+
+    fn count(c: Cursor) -> usize {
+        c.members
+    }
+
+    fn carries(w: &[u32], i: usize, row: u32) -> bool {
+        member_row(w, i) == row && member_width(w, i) == WIDTH_ZERO
+    }
+
+    fn set_row(w: &mut [u32], c: Cursor, i: usize, row: u32) {
+        set_member_row(w, c, i, row);
+    }
+}
+
+struct Values;
+
+impl Entries for Values {
+    ghost Entry = { Value };
+
+    ghost kind = { values };
+
+    fn count(c: Cursor) -> usize {
+        c.values
+    }
+
+    fn carries(w: &[u32], i: usize, row: u32) -> bool {
+        value_row(w, i) == row
+    }
+
+    fn set_row(w: &mut [u32], c: Cursor, i: usize, row: u32) {
+        set_value_row(w, c, i, row);
+    }
+}
+
+struct Parameters;
+
+impl Entries for Parameters {
+    ghost Entry = { Parameter };
+
+    ghost kind = { parameters };
+
+    fn count(c: Cursor) -> usize {
+        c.parameters
+    }
+
+    fn carries(w: &[u32], i: usize, row: u32) -> bool {
+        parameter_row(w, i) == row
+    }
+
+    fn set_row(w: &mut [u32], c: Cursor, i: usize, row: u32) {
+        set_parameter_row(w, c, i, row);
+    }
+}
+
+// The entries, from a number on, that carry a row get another.
+fn rerow<E: Entries>(w: &mut [u32], c: Cursor, from: usize, old: u32, row: u32)
+    requires { (length w.old ≡ words_length) × Room c }
+    ensures { ChangesWords (rerowed E.kind from old row) c w.old w.new }
+{
+    for i in from..E::count(c) {
+        if E::carries(w, i, old) {
+            E::set_row(w, c, i, row);
+        }
+    }
+}
+
+// The entries of a list, from number `first` on, get its row.
+fn own<E: Entries>(w: &mut [u32], c: Cursor, first: u32, row: u32)
+    requires { (length w.old ≡ words_length) × Room c }
+    ensures { ChangesWords (rerowed E.kind first (mark_of first) row) c w.old w.new }
+{
+    let from = first as usize;
+    if from < E::count(c) {
+        rerow::<E>(w, c, from, OPEN_LIST + first, row);
+    }
+}
+
+// The entries of row n, whose body is replaced, get row 0.
+fn release<E: Entries>(w: &mut [u32], c: Cursor, n: u32)
+    requires { (length w.old ≡ words_length) × Room c }
+    ensures { ChangesWords (λ t. released E.kind n (span_of (row_at t n)).count t) c w.old w.new }
+{
+    if row_count(w, n) != 0 {
+        rerow::<E>(w, c, 0, n, NO_ROW);
+    }
+}
+
+// ---- what the definition names
+
 // The fields of a body, from number `first` on, get its row.
+#[tactic(auto, unfolding(definition::specs::Composite::own_members))]
 pub fn own_members(w: &mut [u32], c: Cursor, first: u32, row: u32)
     requires { (length w.old ≡ words_length) × Room c }
     ensures { ChangesWords (λ t. with_members t (own_members first row t.members)) c w.old w.new }
 {
-    let from = first as usize;
-    if from < c.members {
-        rerow_members(w, c, from, OPEN_LIST + first, row);
-    }
+    own::<Members>(w, c, first, row);
 }
 
 // The members of row n, whose body is replaced, get row 0.
+#[tactic(auto, unfolding(definition::specs::Composite::release_members))]
 pub fn release_members(w: &mut [u32], c: Cursor, n: u32)
     requires { (length w.old ≡ words_length) × Room c }
     ensures { ChangesWords (λ t. with_members t (release_members (row_at t n) n t.members)) c w.old w.new }
 {
-    if row_count(w, n) != 0 {
-        rerow_members(w, c, 0, n, NO_ROW);
-    }
+    release::<Members>(w, c, n);
 }
 
 // Of the members of a body, from number `first` on, those of width 0 get row 0: they are no fields.
+#[tactic(auto, unfolding(definition::specs::Composite::fields_only))]
 pub fn fields_only(w: &mut [u32], c: Cursor, first: u32)
     requires { (length w.old ≡ words_length) × Room c }
     ensures { ChangesWords (λ t. with_members t (fields_only first t.members)) c w.old w.new }
 {
-    let count = c.members;
-    let mut i = first as usize;
-    if count <= i {
-        return;
-    }
-    let mark = OPEN_LIST + first;
-    while i < count {
-        if member_row(w, i) == mark {
-            if member_width(w, i) == WIDTH_ZERO {
-                set_member_row(w, c, i, NO_ROW);
-            }
-        }
-        i = i + 1;
-    }
+    own::<ZeroWidths>(w, c, first, NO_ROW);
 }
 
 // How many members, from number `first` on, are fields of its body.
@@ -84,84 +188,43 @@ pub fn field_count(w: &[u32], c: Cursor, first: u32) -> u32
     requires { Room c }
     ensures { Counted (λ t. how_many_carry (mark_of first) (drop first t.members)) c w.now result }
 {
-    let count = c.members;
-    let mut i = first as usize;
-    if count <= i {
+    let from = first as usize;
+    if c.members <= from {
         return 0;
     }
     let mark = OPEN_LIST + first;
     let mut fields = 0;
-    while i < count {
+    for i in from..c.members {
         if member_row(w, i) == mark {
-            fields = fields + 1;
+            fields += 1;
         }
-        i = i + 1;
     }
     fields
 }
 
-// ---- values
-
-// The values, from a number on, that carry a row get another.
-fn rerow_values(w: &mut [u32], c: Cursor, from: usize, old: u32, row: u32)
-    requires { (length w.old ≡ words_length) × Room c }
-    ensures { ChangesWords (λ t. with_values t (changed_from (λ e. eqb e.row old) (λ e. value_rerowed e row) from t.values)) c w.old w.new }
-{
-    let count = c.values;
-    let mut i = from;
-    while i < count {
-        if value_row(w, i) == old {
-            set_value_row(w, c, i, row);
-        }
-        i = i + 1;
-    }
-}
-
 // The values of an enum, from number `first` on, get its row.
+#[tactic(auto, unfolding(definition::specs::Enumeration::own_values))]
 pub fn own_values(w: &mut [u32], c: Cursor, first: u32, row: u32)
     requires { (length w.old ≡ words_length) × Room c }
     ensures { ChangesWords (λ t. with_values t (own_values first row t.values)) c w.old w.new }
 {
-    let from = first as usize;
-    if from < c.values {
-        rerow_values(w, c, from, OPEN_LIST + first, row);
-    }
+    own::<Values>(w, c, first, row);
 }
 
 // The values of row n, whose body is replaced, get row 0.
+#[tactic(auto, unfolding(definition::specs::Enumeration::release_values))]
 pub fn release_values(w: &mut [u32], c: Cursor, n: u32)
     requires { (length w.old ≡ words_length) × Room c }
     ensures { ChangesWords (λ t. with_values t (release_values (row_at t n) n t.values)) c w.old w.new }
 {
-    if row_count(w, n) != 0 {
-        rerow_values(w, c, 0, n, NO_ROW);
-    }
-}
-
-// ---- parameters
-
-// The parameters, from a number on, that carry a row get another.
-fn rerow_parameters(w: &mut [u32], c: Cursor, from: usize, old: u32, row: u32)
-    requires { (length w.old ≡ words_length) × Room c }
-    ensures { ChangesWords (λ t. with_parameters t (changed_from (λ e. eqb e.row old) (λ e. parameter_rerowed e row) from t.parameters)) c w.old w.new }
-{
-    let count = c.parameters;
-    let mut i = from;
-    while i < count {
-        if parameter_row(w, i) == old {
-            set_parameter_row(w, c, i, row);
-        }
-        i = i + 1;
-    }
+    release::<Values>(w, c, n);
 }
 
 // The parameters of a list, from number `first` on, get its row.
+#[tactic(auto, unfolding(definition::specs::Declarator::own_parameters))]
 pub fn own_parameters(w: &mut [u32], c: Cursor, first: u32, row: u32)
     requires { (length w.old ≡ words_length) × Room c }
     ensures { ChangesWords (λ t. with_parameters t (own_parameters first row t.parameters)) c w.old w.new }
 {
-    let from = first as usize;
-    if from < c.parameters {
-        rerow_parameters(w, c, from, OPEN_LIST + first, row);
-    }
+    own::<Parameters>(w, c, first, row);
 }

@@ -1,12 +1,36 @@
 -- What is told of the entries of two lists.
-use Rattle.std.specs.Prelude.{◌≡◌, Bool, List, ℕ, ◌<◌, ℤ, length, get_or, drop}
-use Rattle.definition.specs.Table.{Table, carrying}
+use Rattle.std.specs.Prelude.{◌≡◌, Bool, false, List, Option, MatchOption, ℕ, ◌≤◌, ◌<◌, ℤ, length, get_or, drop}
+use Rattle.definition.specs.Table.{Table, Member, Value, Parameter, carrying}
+use Rattle.definition.specs.Types.{pairwise}
 use Rattle.table.specs.Held.{InWords, InWides, InSigneds}
 
--- r is the first entry from `from` on that carries a row, or is past the last: what the entries before it are does not matter.
-pub record Next {E : Type 0} (es : Table → List E) (row_of : E → ℕ) (blank : E) (row from count : ℕ) (w : List ℕ) (r : ℕ) : Type 0 where
-  pub skips : (t : Table) → InWords t w → count ≡ length (es t) → (k : ℕ) → carrying row_of row k (drop from (es t)) ≡ carrying row_of row k (drop r (es t))
-  pub stops : (t : Table) → InWords t w → r < count → row_of (get_or (es t) r blank) ≡ row
+-- where r is true the words hold no table
+abbrev pub NoTable : List ℕ → Bool → Type 0
+NoTable w r = (t : Table) → InWords t w → r ≡ false
+
+-- what was read of each entry from one on is another row
+abbrev pub Others : (ℕ → ℕ → Type 0) → ℕ → ℕ → ℕ → Type 0
+Others reads row from end = (k : ℕ) → from ≤ k → k < end → (n : ℕ) × reads k n × (n ≡ row → ⊥)
+
+-- r is the first entry from `from` on of which a row was read
+abbrev pub Next : (ℕ → ℕ → Type 0) → ℕ → ℕ → ℕ → Option ℕ → Type 0
+Next reads row from count r = MatchOption r (Others reads row from count) (λ i. (from ≤ i) × (i < count) × reads i row × Others reads row from i)
+
+-- the kinds of entries
+pub data Kind : Type 0 where
+  members values parameters : Kind
+
+abbrev pub Entry : Kind → Type 0
+Entry members = Member
+Entry values = Value
+Entry parameters = Parameter
+
+-- Two lists are the same, whatever entries these are: `reads` is what was read of an entry's row, and `tells` what was told of two entries.
+pub record Pairs (reads : ℕ → ℕ → Type 0) (tells : ℕ → ℕ → Bool → Type 0) (count mark first row other entries : ℕ) (r : Bool) : Type 0 where
+  pub of : (k : Kind) (row_of : Entry k → ℕ) (same : Entry k → Entry k → Bool) (blank : Entry k) (es : List (Entry k)) → count ≡ length es
+      → ((i n : ℕ) → reads i n → n ≡ row_of (get_or es i blank))
+      → ((a b : ℕ) (s : Bool) → tells a b s → s ≡ same (get_or es a blank) (get_or es b blank))
+      → r ≡ pairwise same (carrying row_of mark entries (drop first es)) (carrying row_of row entries (drop other es))
 
 -- a test of what the slices hold
 pub record MembersSay (f : Table → Bool) (w d : List ℕ) (r : Bool) : Type 0 where

@@ -6,8 +6,8 @@ use Rattle.open_lists.proofs.Changed.{count-hit, count-miss, count-end}
 use Rattle.open_lists.proofs.field_count.Goals as goal
 use Rattle.open_lists.proofs.field_count.Goals.{then-member_row-mark, else-member_row-mark}
 
-pub returns-then-count-i : goal.returns-then-count-i
-returns-then-count-i c = record { of = λ t h k. sym (count-end _ t.members c.args.first (omega (arith, k.members))) }
+pub returns-then-c-from : goal.returns-then-c-from
+returns-then-c-from c = record { of = λ t h k. sym (count-end _ t.members c.args.first (omega (arith, k.members))) }
 
 pub loop-i-init : goal.loop-i-init
 loop-i-init c = (omega arith, λ t h e. omega arith)

@@ -1,26 +1,11 @@
-use borrow.Author.Tests.{not-true, not-false}
-use native.Mathlib.Omega.{arith}
-use mathlib.Core.Path.{refl, sym, ap, ◌∙◌}
-use lib.Dec.{leb}
+use Rattle.std.proofs.Common.{rules}
 use Rattle.definition.specs.Types.{same_value}
 use Rattle.table.specs.Held.{no_value}
-use Rattle.same_entries.proofs.Carried.{both_end, second-ends, differ, agree, none_left}
+use Rattle.same_entries.specs.Entries.{values}
 use Rattle.same_entries.proofs.same_values.Goals as goal
 
-pub loop-k-init : goal.loop-k-init
-loop-k-init c = λ t h g e. refl
-
-pub returns-then-count-a : goal.returns-then-count-a
-returns-then-count-a c = record { of = λ t h g e. sym (c.loop-k.invariant t h g e ∙ (both_end (λ e. e.row) no_value same_value t.values c.args.mark c.args.row c.loop-k.k c.loop-k.i c.loop-k.j c.next_value-a.result c.next_value-b.result (c.next_value-a.ensures.skips t h e) (c.next_value-b.ensures.skips t h e) c.loop-k-test.true (λ p. c.next_value-b.ensures.stops t h (omega (arith, e))) (omega (arith, e)) ∙ ap (λ z. leb z c.next_value-b.result) (sym e))) }
-
-pub returns-then-count-b : goal.returns-then-count-b
-returns-then-count-b c = record { of = λ t h g e. sym (c.loop-k.invariant t h g e ∙ second-ends (λ e. e.row) no_value same_value t.values c.args.mark c.args.row c.loop-k.k c.loop-k.i c.loop-k.j c.next_value-a.result c.next_value-b.result (c.next_value-a.ensures.skips t h e) (c.next_value-b.ensures.skips t h e) c.loop-k-test.true (omega (arith, e)) (c.next_value-a.ensures.stops t h c.if-count-a.false) (omega (arith, e))) }
-
-pub returns-then-not-same_value : goal.returns-then-not-same_value
-returns-then-not-same_value c = record { of = λ t h g e. sym (c.loop-k.invariant t h g e ∙ differ (λ e. e.row) no_value same_value t.values c.args.mark c.args.row c.loop-k.k c.loop-k.i c.loop-k.j c.next_value-a.result c.next_value-b.result (c.next_value-a.ensures.skips t h e) (c.next_value-b.ensures.skips t h e) c.loop-k-test.true (omega (arith, e)) (c.next_value-a.ensures.stops t h c.if-count-a.false) (omega (arith, e)) (c.next_value-b.ensures.stops t h c.if-count-b.false) (sym (c.same_value.ensures.of t h g) ∙ not-true _ c.if-not-same_value.true-raw)) }
-
-pub loop-k-preserved : goal.loop-k-preserved
-loop-k-preserved c = λ t h g e. c.loop-k.invariant t h g e ∙ agree (λ e. e.row) no_value same_value t.values c.args.mark c.args.row c.loop-k.k c.loop-k.i c.loop-k.j c.next_value-a.result c.next_value-b.result (c.next_value-a.ensures.skips t h e) (c.next_value-b.ensures.skips t h e) c.loop-k-test.true (omega (arith, e)) (c.next_value-a.ensures.stops t h c.if-count-a.false) (omega (arith, e)) (c.next_value-b.ensures.stops t h c.if-count-b.false) (sym (c.same_value.ensures.of t h g) ∙ not-false _ c.if-not-same_value.false-raw)
+pub returns-then-is_short : goal.returns-then-is_short
+returns-then-is_short c = record { of = λ t h g e. (let z = c.if-is_short.ensures t h in absurd cc) }
 
 pub returns : goal.returns
-returns c = record { of = λ t h g e. sym (c.loop-k.invariant t h g e ∙ none_left (λ e. e.row) same_value t.values c.args.mark c.args.row c.loop-k.k c.loop-k.i c.loop-k.j c.loop-k-test.false) }
+returns c = record { of = λ t h g e. c.same_lists.ensures.of values (λ x. x.row) same_value no_value t.values e (λ i n q. search rules) (λ a b s q. search rules) }
