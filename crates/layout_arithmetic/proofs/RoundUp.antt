@@ -4,7 +4,7 @@ use Prim.Native.Nat.{ℕ, ◌+◌, ◌-◌, ◌*◌, ◌/◌, ◌%◌, ◌≤◌
 use native.Mathlib.Omega.{arith}
 use mathlib.Core.Logic.{◌⊎◌, inl, inr}
 use Rattle.std.proofs.lemmas.Bool.{cases_lt}
-use native.Mathlib.Nat.{div-add-mod', mod-lt, div-eq_of_lt-le, mul-div_cancel, mul-div_cancel_left, div-div-eq-div-mul, lt-div-mul-add, mul-le-mul_right, mod-eq_of_lt, mod_self}
+use native.Mathlib.Nat.{div-add-mod', mod-lt, div-eq_of_lt-le, mul-div_cancel, mul-div_cancel_left, div-div-eq-div-mul, lt-div-mul-add, mul-le-mul_right}
 use Rattle.definition.specs.Layout.{round_up}
 
 -- of the multiples of k, the one from v on and below v + k
@@ -25,22 +25,14 @@ module _ (v k : ℕ) (p : 0 < k) where
   round-below = omega (arith, rest, div-add-mod' (v + (k - 1)) k)
 
   -- a multiple is left as it is
-  round_whole : v % k ≡ 0 → round_up v k ≡ v
+  pub round_whole : v % k ≡ 0 → round_up v k ≡ v
   round_whole e = let h : v / k * k ≡ v = omega (arith, div-add-mod' v k) in round_is (v / k) (omega arith) (omega arith) ∙ h
 
   -- anything else goes on to the next
-  round-on : (v % k ≡ 0 → ⊥) → round_up v k ≡ v + (k - v % k)
+  pub round-on : (v % k ≡ 0 → ⊥) → round_up v k ≡ v + (k - v % k)
   round-on e =
       let h : (v / k + 1) * k ≡ v + (k - v % k) = omega (arith, div-add-mod' v k, mod-lt v p) in
       round_is (v / k + 1) (omega (arith, mod-lt v p)) (omega (arith, mod-lt v p)) ∙ h
-
-  -- as the machine computes it
-  pub round-next : v + (k - v % k) % k ≡ round_up v k
-  round-next = by (cases_lt 0 (v % k))
-    where
-      by : (0 < v % k) ⊎ (v % k ≤ 0) → v + (k - v % k) % k ≡ round_up v k
-      by (inl q) = rw (mod-eq_of_lt {n = k - v % k} {m = k} (omega arith)) (sym (round-on (omega arith)))
-      by (inr q) = let g : k - v % k ≡ k = omega arith in let h = round_whole (omega arith) in rw (g, mod_self k) (omega arith)
 
 -- ---- in parts of d: how many parts, rounded up to a multiple of a
 

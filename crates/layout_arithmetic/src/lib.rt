@@ -61,11 +61,16 @@ pub fn empty() -> Laid
     }
 }
 
-// The least multiple of k that is at least v; 0 counts 1.
+// The least multiple of k that is at least v; 0 counts 1. The library's method of this name divides twice.
 pub fn round_up(v: u64, k: u64) -> Option<u64>
     ensures { (at : ℕ) → exact result at ≡ within at (round_up v (max k 1)) }
 {
-    v.checked_next_multiple_of(k.max(1))
+    let step = k.max(1);
+    let past = v % step;
+    if past == 0 {
+        return Some(v);
+    }
+    v.checked_add(step - past)
 }
 
 // Bits in whole bytes.

@@ -91,8 +91,17 @@ pub fn or_one(a: Option<u64>) -> u64
     a.unwrap_or(1)
 }
 
-// Below, an alignment is a number, 0 where there is none, and of the model there are the alignment of a pointer and the cap: a call then copies nothing. With
-// options in their place a scalar's alignment takes half as long again.
+// What alignments are read from: the rows and the members, of which there are so many; and of the model the alignment of a pointer, and the cap.
+#[derive(Clone, Copy)]
+struct Source<'a> {
+    words: &'a [u32],
+    wides: &'a [u64],
+    members: usize,
+    pointer: u64,
+    most: u64,
+}
+
+// Below, an alignment is a number, 0 where there is none: with options in its place a scalar's alignment takes half as long again.
 
 // A scalar's alignment: its size, at least 1 and at most the cap.
 fn capped(most: u64, size: u64) -> u64
@@ -115,85 +124,69 @@ fn own_align(pointer: u64, most: u64, kind: u32, extent: u64) -> u64
 }
 
 // The alignment of a row that goes by a scalar; 0 says nothing. Most members are such, and need no call.
-fn scalar_align(pointer: u64, most: u64, w: &[u32], d: &[u64], n: u32, levels: u32) -> u64
-    ensures { ScalarIs levels pointer most n w.now d.now result }
+fn scalar_align(s: &Source<'_>, n: u32, levels: u32) -> u64
+    ensures { ScalarIs levels s.now.pointer s.now.most n s.now.words.now s.now.wides.now result }
 {
     let mut row = n;
     for _ in 0..levels {
-        let kind = row_kind(w, row);
+        let kind = row_kind(s.words, row);
         if !goes_by_another(kind) {
-            let extent = row_extent(d, row);
-            return own_align(pointer, most, kind, extent);
+            let extent = row_extent(s.wides, row);
+            return own_align(s.pointer, s.most, kind, extent);
         }
-        row = row_target(w, row);
+        row = row_target(s.words, row);
     }
     0
 }
 
 // The alignment of a row as far as `levels` rows deep.
 #[cycle(align_within_strictest)]
-fn align_within(
-    pointer: u64,
-    most: u64,
-    w: &[u32],
-    d: &[u64],
-    members: usize,
-    n: u32,
-    levels: u32,
-) -> u64
-    ensures { WithinIs levels pointer most members n w.now d.now result }
+fn align_within(s: &Source<'_>, n: u32, levels: u32) -> u64
+    ensures { WithinIs levels s.now.pointer s.now.most s.now.members n s.now.words.now s.now.wides.now result }
 {
     if levels == 0 {
         return 0;
     }
-    let kind = row_kind(w, n);
+    let kind = row_kind(s.words, n);
     match kind {
         STRUCT_KIND | UNION_KIND => {
-            let best = strictest(pointer, most, w, d, members, n, levels - 1);
+            let best = strictest(s, n, levels - 1);
             best.max(1)
         }
         ARRAY_KIND | TYPEDEF_KIND | QUALIFIED_KIND => {
-            let under = row_target(w, n);
-            align_within(pointer, most, w, d, members, under, levels - 1)
+            let under = row_target(s.words, n);
+            align_within(s, under, levels - 1)
         }
         _ => {
-            let extent = row_extent(d, n);
-            own_align(pointer, most, kind, extent)
+            let extent = row_extent(s.wides, n);
+            own_align(s.pointer, s.most, kind, extent)
         }
     }
 }
 
 // The largest alignment of a row's members: from its first entry on, as many as it has that carry it.
 #[cycle(align_within_strictest)]
-fn strictest(
-    pointer: u64,
-    most: u64,
-    w: &[u32],
-    d: &[u64],
-    members: usize,
-    n: u32,
-    levels: u32,
-) -> u64
-    ensures { StrictestIs levels pointer most members n w.now d.now result }
+fn strictest(s: &Source<'_>, n: u32, levels: u32) -> u64
+    ensures { StrictestIs levels s.now.pointer s.now.most s.now.members n s.now.words.now s.now.wides.now result }
 {
-    let first = row_first(w, n) as usize;
-    let mut left = row_count(w, n);
+    let first = row_first(s.words, n) as usize;
+    let mut left = row_count(s.words, n);
     let mut best = 0;
-    for i in first..members {
+    for i in first..s.members {
         if left == 0 {
             return best;
         }
-        if member_row(w, i) != n {
+        if member_row(s.words, i) != n {
             continue;
         }
-        let ty = member_type(w, i);
+        let ty = member_type(s.words, i);
         left -= 1;
-        let scalar = scalar_align(pointer, most, w, d, ty, levels);
+        let scalar = scalar_align(s, ty, levels);
         if scalar != 0 {
             best = best.max(scalar);
             continue;
         }
-        let a = align_within(pointer, most, w, d, members, ty, levels);
+        let a = align_within(s, ty, levels);
         best = best.max(a);
     }
     best
@@ -205,6 +198,13 @@ pub fn align_of(m: Model, w: &[u32], d: &[u64], members: usize, n: u32) -> Optio
 {
     let most = m.max_align.max(1);
     let pointer = capped(most, m.pointer);
-    let a = align_within(pointer, most, w, d, members, n, Model::ALIGN_LEVELS);
+    let s = Source {
+        words: w,
+        wides: d,
+        members,
+        pointer,
+        most,
+    };
+    let a = align_within(&s, n, Model::ALIGN_LEVELS);
     if a == 0 { None } else { Some(a) }
 }
