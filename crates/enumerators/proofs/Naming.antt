@@ -18,7 +18,8 @@ use Rattle.definition.specs.Table.{mark_of, push_value}
 use Rattle.table.specs.Reply.{Peek, Reply, Does}
 use Rattle.table.specs.Store.{value_pushed}
 use Rattle.table.specs.declared.Cursor.{Cursor}
-use Rattle.std.specs.Prelude.{Option, Some, None}
+use Rattle.std.specs.Prelude.{Option, Some, None, Result, Ok, Err}
+use Rattle.std.specs.Option.{ok_or}
 use Rattle.enumerator_values.specs.Pending.{pending}
 use Rattle.lemmas.proofs.Branch.{yes}
 use Rattle.constants.proofs.Steps.{there}
@@ -64,3 +65,12 @@ pub entered : {c : Cursor} {w d w' d' ns : List ℕ} {v v' : List ℤ} {r : Repl
     → Does (push_value (record { row = mark_of first; name = get_or ns i 0; value = x })) c w d v r w' d' v'
 unfolding mark_of
 entered {c} {w} {d} {w'} {d'} {v = v} {v'} {r} first x p g = subst (λ z. Does (value_pushed (1024 + first) z x) c w d v r w' d' v') p.is g
+
+-- what `ok_or` was given, from what it gave
+pub some_by : {X E : Type 0} (o : Option X) (e : E) (x : X) → ◌≡◌ {A = Result X E} (Ok x) (ok_or o e) → o ≡ Some x
+some_by (Some y) e x q = cc
+some_by None e x q = let z : ◌≡◌ {A = ℕ} 0 1 = cc in absurd (omega arith)
+
+pub none_by : {X E : Type 0} (o : Option X) (e z : E) → ◌≡◌ {A = Result X E} (Err z) (ok_or o e) → (o ≡ None) × (z ≡ e)
+none_by (Some y) e z q = let z : ◌≡◌ {A = ℕ} 0 1 = cc in absurd (omega arith)
+none_by None e z q = (refl, cc)

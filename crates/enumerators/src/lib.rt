@@ -44,12 +44,10 @@ pub fn enumerator(
         });
     }
     let (e, value) = enumerator_value(kinds, numbers, w, v, c.moved(at + 1), next, room)?;
-    let Some(x) = value else {
-        return Err(Refusal {
-            reason: Reason::OutOfRange,
-            at,
-        });
-    };
+    let x = value.ok_or(Refusal {
+        reason: Reason::OutOfRange,
+        at,
+    })?;
     let (s, _) = push_value(w, d, v, e, OPEN_LIST + first, name_at(numbers, at), x)?;
     Ok((s, x))
 }
