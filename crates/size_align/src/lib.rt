@@ -91,11 +91,10 @@ pub fn or_one(a: Option<u64>) -> u64
     a.unwrap_or(1)
 }
 
-// What alignments are read from: the rows and the members, of which there are so many; and of the model the alignment of a pointer, and the cap.
+// What alignments need beside the slices: how many members there are, and of the model the alignment of a pointer and the cap. It is lent, so that a call copies
+// nothing and a search keeps its state in registers. The slices go beside it: their lengths are then known where this is compiled, and are not tested.
 #[derive(Clone, Copy)]
-struct Source<'a> {
-    words: &'a [u32],
-    wides: &'a [u64],
+struct Needs {
     members: usize,
     pointer: u64,
     most: u64,
@@ -124,41 +123,41 @@ fn own_align(pointer: u64, most: u64, kind: u32, extent: u64) -> u64
 }
 
 // The alignment of a row that goes by a scalar; 0 says nothing. Most members are such, and need no call.
-fn scalar_align(s: &Source<'_>, n: u32, levels: u32) -> u64
-    ensures { ScalarIs levels s.now.pointer s.now.most n s.now.words.now s.now.wides.now result }
+fn scalar_align(s: &Needs, w: &[u32], d: &[u64], n: u32, levels: u32) -> u64
+    ensures { ScalarIs levels s.now.pointer s.now.most n w.now d.now result }
 {
     let mut row = n;
     for _ in 0..levels {
-        let kind = row_kind(s.words, row);
+        let kind = row_kind(w, row);
         if !goes_by_another(kind) {
-            let extent = row_extent(s.wides, row);
+            let extent = row_extent(d, row);
             return own_align(s.pointer, s.most, kind, extent);
         }
-        row = row_target(s.words, row);
+        row = row_target(w, row);
     }
     0
 }
 
 // The alignment of a row as far as `levels` rows deep.
 #[cycle(align_within_strictest)]
-fn align_within(s: &Source<'_>, n: u32, levels: u32) -> u64
-    ensures { WithinIs levels s.now.pointer s.now.most s.now.members n s.now.words.now s.now.wides.now result }
+fn align_within(s: &Needs, w: &[u32], d: &[u64], n: u32, levels: u32) -> u64
+    ensures { WithinIs levels s.now.pointer s.now.most s.now.members n w.now d.now result }
 {
     if levels == 0 {
         return 0;
     }
-    let kind = row_kind(s.words, n);
+    let kind = row_kind(w, n);
     match kind {
         STRUCT_KIND | UNION_KIND => {
-            let best = strictest(s, n, levels - 1);
+            let best = strictest(s, w, d, n, levels - 1);
             best.max(1)
         }
         ARRAY_KIND | TYPEDEF_KIND | QUALIFIED_KIND => {
-            let under = row_target(s.words, n);
-            align_within(s, under, levels - 1)
+            let under = row_target(w, n);
+            align_within(s, w, d, under, levels - 1)
         }
         _ => {
-            let extent = row_extent(s.wides, n);
+            let extent = row_extent(d, n);
             own_align(s.pointer, s.most, kind, extent)
         }
     }
@@ -166,27 +165,27 @@ fn align_within(s: &Source<'_>, n: u32, levels: u32) -> u64
 
 // The largest alignment of a row's members: from its first entry on, as many as it has that carry it.
 #[cycle(align_within_strictest)]
-fn strictest(s: &Source<'_>, n: u32, levels: u32) -> u64
-    ensures { StrictestIs levels s.now.pointer s.now.most s.now.members n s.now.words.now s.now.wides.now result }
+fn strictest(s: &Needs, w: &[u32], d: &[u64], n: u32, levels: u32) -> u64
+    ensures { StrictestIs levels s.now.pointer s.now.most s.now.members n w.now d.now result }
 {
-    let first = row_first(s.words, n) as usize;
-    let mut left = row_count(s.words, n);
+    let first = row_first(w, n) as usize;
+    let mut left = row_count(w, n);
     let mut best = 0;
     for i in first..s.members {
         if left == 0 {
             return best;
         }
-        if member_row(s.words, i) != n {
+        if member_row(w, i) != n {
             continue;
         }
-        let ty = member_type(s.words, i);
+        let ty = member_type(w, i);
         left -= 1;
-        let scalar = scalar_align(s, ty, levels);
+        let scalar = scalar_align(s, w, d, ty, levels);
         if scalar != 0 {
             best = best.max(scalar);
             continue;
         }
-        let a = align_within(s, ty, levels);
+        let a = align_within(s, w, d, ty, levels);
         best = best.max(a);
     }
     best
@@ -198,13 +197,11 @@ pub fn align_of(m: Model, w: &[u32], d: &[u64], members: usize, n: u32) -> Optio
 {
     let most = m.max_align.max(1);
     let pointer = capped(most, m.pointer);
-    let s = Source {
-        words: w,
-        wides: d,
+    let s = Needs {
         members,
         pointer,
         most,
     };
-    let a = align_within(&s, n, Model::ALIGN_LEVELS);
+    let a = align_within(&s, w, d, n, Model::ALIGN_LEVELS);
     if a == 0 { None } else { Some(a) }
 }
