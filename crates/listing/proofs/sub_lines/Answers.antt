@@ -1,4 +1,4 @@
-use Rattle.std.proofs.Common.{rules, refl, sym, ap, ◌∙◌, length, arith}
+use Rattle.std.proofs.Common.{rules, sym, ap, ◌∙◌, arith}
 use Rattle.table.specs.declared.Numbers.{Numbers}
 use Rattle.definition.specs.Listing.{member_line, value_line, param_line}
 use Rattle.definition.specs.Table.{row_at}
