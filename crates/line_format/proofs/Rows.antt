@@ -1,26 +1,25 @@
 -- The words of the numbers are the words of the row or the entry. Assumes nothing.
 use mathlib.Core.Path.{◌≡◌, refl, ap, ◌∙◌}
 use mathlib.Core.Bool.{Bool, true, false}
-use mathlib.Core.List.{List, [], ◌∷◌, ◌++◌}
+use mathlib.Core.List.{[], ◌∷◌}
 use mathlib.Core.Option.{Option, none, some}
 use Rattle.std.specs.Prelude.{Option as CodeOption, Some, None}
-use Prim.Native.Nat.{ℕ, zero, suc, ◌+◌, ◌-◌, ◌/◌, ◌%◌, ◌^◌, ◌<◌, ◌≤◌}
+use Prim.Native.Nat.{ℕ, ◌^◌, ◌<◌}
 use native.Mathlib.Omega.{arith}
 use lib.Dec.{eqb, ltb}
 use Rattle.lemmas.proofs.Branch.{eq_no}
-use borrow.Author.Tests.{eq-eqb, ne_eqb, eqb-true, eqb-false}
+use borrow.Author.Tests.{eqb-true, eqb-false}
 use Rattle.definition.specs.Text.{Bytes, bytes}
 use Rattle.definition.specs.Row.{Row, void, int, float, bool, pointer, array, composite, enumeration, function, typedef, qualified, kind_of, target_of, flags_of, row_name, extent_of}
 use Rattle.definition.specs.Types.{width_number}
-use Rattle.definition.specs.Listing.{decimal, dash, or_dash, name_word, size_word, letters, kind_word, details}
-use Rattle.words.specs.Meaning.{qualifiers_in}
+use Rattle.definition.specs.Listing.{decimal, or_dash, name_word, size_word, letters, kind_word, details}
 use Rattle.words.proofs.Uses.{bits-qualifiers}
 use Rattle.size_align.specs.declared.Size.TheVariants.{Known, Big}
 use Rattle.size_align.specs.Measure.{told_below, told, align}
 use Rattle.table.specs.declared.Numbers.{Numbers}
 use Rattle.table.specs.Reply.{numbers}
 use Rattle.printing.specs.Words.{or_dash_of}
-use Rattle.line_format.specs.Parts.{width_of, size_bytes, chosen, kind_bytes, details_of}
+use Rattle.line_format.specs.Parts.{width_of, size_bytes, kind_bytes, details_of}
 
 -- widths
 pub width-of : (o : Option ℕ) → width_of (width_number o) ≡ o

@@ -1,5 +1,5 @@
 -- The words of a line from the numbers of the table.
-use Rattle.std.specs.Prelude.{Bool, true, false, List, [], ◌∷◌, ℕ, zero, suc, ◌/◌, ◌%◌, eqb, ℤ, ◌||◌}
+use Rattle.std.specs.Prelude.{Bool, true, false, List, [], ◌∷◌, ℕ, zero, suc, ◌/◌, ◌%◌, eqb, ℤ}
 use Rattle.std.proofs.Math.Option.{Option, none, some}
 use Rattle.definition.specs.Text.{Bytes, bytes}
 use Rattle.definition.specs.RowKind.{void_kind, int_kind, float_kind, bool_kind, pointer_kind, array_kind, struct_kind, union_kind, enum_kind, function_kind, typedef_kind, qualified_kind}

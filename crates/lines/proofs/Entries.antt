@@ -1,5 +1,5 @@
 -- The line of an entry's numbers is the entry's line. Assumes nothing.
-use mathlib.Core.Path.{◌≡◌, refl, ap, ◌∙◌}
+use mathlib.Core.Path.{◌≡◌, refl}
 use mathlib.Core.List.{List, [], ◌∷◌}
 use Prim.Native.Nat.{ℕ}
 use lib.IntN.{ℤ}
@@ -8,7 +8,6 @@ use Rattle.definition.specs.Byte.{line_feed}
 use Rattle.definition.specs.Model.{Model}
 use Rattle.definition.specs.Size.{size_of}
 use Rattle.definition.specs.Align.{align_of}
-use Rattle.definition.specs.Row.{kind_of}
 use Rattle.definition.specs.Table.{Table, row_at, Member as MeantMember, Value, Parameter}
 use Rattle.definition.specs.Types.{width_number}
 use Rattle.definition.specs.Listing.{decimal, or_dash, size_word, parted, kind_word, type_line, member_line, value_line, param_line, details}

@@ -1,5 +1,5 @@
 -- The lines of the entries that carry a row. Assumes nothing.
-use Rattle.std.proofs.Common.{◌≡◌, refl, sym, ap, ◌∙◌, List, [], ◌∷◌, ◌++◌, Bool, true, false, ℕ, zero, suc, ◌+◌, ◌-◌, ◌<◌, ◌≤◌, eqb, length, get_or, drop, add-one, arith, eq-eqb, ne_eqb}
+use Rattle.std.proofs.Common.{◌≡◌, refl, sym, ap, ◌∙◌, List, [], ◌∷◌, ◌++◌, Bool, true, false, ℕ, zero, suc, ◌+◌, ◌-◌, ◌<◌, ◌≤◌, eqb, length, get_or, drop, arith, eq-eqb, ne_eqb}
 use Rattle.std.specs.Borrow.{MutBor}
 use Rattle.std.specs.List.{range_with_len}
 use lib.ListN.{drop_of_length-le}

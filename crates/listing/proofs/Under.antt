@@ -1,5 +1,5 @@
 -- The lines of entries, one after the other. Assumes nothing.
-use Rattle.std.proofs.Common.{◌≡◌, refl, sym, ap, ◌∙◌, List, [], ◌∷◌, ◌++◌, ℕ, zero, suc, ◌+◌, ◌-◌, ◌<◌, ◌≤◌, length, get_or, drop, add-one, arith}
+use Rattle.std.proofs.Common.{◌≡◌, sym, [], ◌++◌}
 use Rattle.definition.specs.Text.{Bytes}
 use Rattle.definition.specs.Table.{Table}
 use Rattle.lines.specs.Lines.{WritesAs}

@@ -10,26 +10,27 @@ ghost use Rattle.lines.specs.Lines.{WritesAs};
 ghost use Rattle.listing.specs.Listed.{HoldDeclarations, WritesEntries};
 
 use encoding::row_kinds::{ENUM_KIND, FUNCTION_KIND, STRUCT_KIND, UNION_KIND};
-use lines::{decl_line, member_line, param_line, row_numbers, type_line, value_line};
+use lines::{decl_line, member_line, param_line, type_line, value_line};
 use model::Model;
 use printing::Writer;
-use table::{Cursor, Numbers, member_row, parameter_row, value_row};
+use table::{Cursor, member_row, parameter_row, row_count, row_first, row_kind, value_row};
 
 // The lines of the entries that carry a row: from its first one on, as many as it has.
 fn entry_lines<R: Fn(usize) -> u32, L: Fn(&mut Writer<'_>, usize)>(
     out: &mut Writer<'_>,
     row: u32,
-    x: Numbers,
+    first: u32,
+    count: u32,
     entries: usize,
     row_of: R,
     put_line: L,
 )
     requires rows { R.IsAlwaysCallable row_of }
     requires lines { L.IsAlwaysCallable put_line }
-    ensures { WritesEntries (R.post row_of) (λ p i q. L.post put_line p i tt q) row x.count x.first entries out.old out.new }
+    ensures { WritesEntries (R.post row_of) (λ p i q. L.post put_line p i tt q) row count first entries out.old out.new }
 {
-    let mut left = x.count;
-    for i in x.first as usize..entries {
+    let mut left = count;
+    for i in first as usize..entries {
         if left == 0 {
             return;
         }
@@ -51,12 +52,15 @@ fn sub_lines(
 )
     ensures { WritesAs (λ t. Stands t c w.now d.now v.now) (λ t. sub_lines text.now t row (row_at t row)) out.old out.new }
 {
-    let x = row_numbers(w, d, row);
-    match x.kind {
+    let kind = row_kind(w, row);
+    let first = row_first(w, row);
+    let count = row_count(w, row);
+    match kind {
         STRUCT_KIND | UNION_KIND => entry_lines(
             out,
             row,
-            x,
+            first,
+            count,
             c.members,
             |i| member_row(w, i),
             |out, i| member_line(out, text, w, d, i),
@@ -64,7 +68,8 @@ fn sub_lines(
         ENUM_KIND => entry_lines(
             out,
             row,
-            x,
+            first,
+            count,
             c.values,
             |i| value_row(w, i),
             |out, i| value_line(out, text, w, v, i),
@@ -72,7 +77,8 @@ fn sub_lines(
         FUNCTION_KIND => entry_lines(
             out,
             row,
-            x,
+            first,
+            count,
             c.parameters,
             |i| parameter_row(w, i),
             |out, i| param_line(out, text, w, i),

@@ -1,5 +1,5 @@
 -- The bytes of a name. Assumes nothing.
-use Rattle.std.proofs.Common.{◌≡◌, sym, ap, ◌∙◌, ◌∷◌, [], ℕ, ◌/◌, ◌%◌, ◌-◌, ◌≤◌, length, take, drop, arith, eq-eqb, ne_eqb}
+use Rattle.std.proofs.Common.{◌≡◌, ap, ◌∙◌, ◌∷◌, [], ℕ, ◌/◌, ◌%◌, ◌-◌, length, take, drop, arith, eq-eqb, ne_eqb}
 use Prim.Native.Nat.{min}
 use Rattle.std.proofs.lemmas.List.{take_min, drop_min, take_all, length-drop}
 use Rattle.definition.specs.Text.{Bytes, bytes}

@@ -1,4 +1,4 @@
-use Rattle.std.proofs.Common.{rules, ◌≡◌, refl, arith}
+use Rattle.std.proofs.Common.{refl, arith}
 use Rattle.printing.proofs.Writing.{no_word, a_word, last_word, words_as}
 use Rattle.line_format.specs.Parts.{details_of}
 use Rattle.line_format.proofs.Rows.{no_details, name_alone}

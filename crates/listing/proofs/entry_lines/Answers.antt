@@ -1,4 +1,4 @@
-use Rattle.std.proofs.Common.{refl, arith}
+use Rattle.std.proofs.Common.{refl}
 use Rattle.listing.proofs.Carried.{begins, enough, ended, skipped, listed}
 use Rattle.listing.proofs.entry_lines.Goals as goal
 use Rattle.listing.proofs.entry_lines.Goals.{then-row_of-row, else-row_of-row}

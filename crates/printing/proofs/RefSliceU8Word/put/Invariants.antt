@@ -1,4 +1,4 @@
-use Rattle.std.proofs.Common.{◌≡◌, length, take}
+use Rattle.std.proofs.Common.{take}
 use Rattle.printing.specs.Written.{Wrote}
 use Rattle.printing.proofs.RefSliceU8Word.put.Given as goal
 
