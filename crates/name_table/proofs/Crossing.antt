@@ -7,13 +7,15 @@ use Prim.Native.Nat.{ℕ, ◌+◌, ◌-◌, ◌*◌, ◌≤◌, ◌<◌}
 use native.Mathlib.Omega.{arith}
 use native.Mathlib.Numerals.{add-one}
 use lib.Dec.{eqb}
-use lib.ListN.{length, get_or, set, get_or-eq_default}
+use lib.ListN.{length, get_or, set}
 use lib.Seq.{get_or-set_same, get_or-set_other}
 use borrow.Author.Tests.{ne_eqb, eqb-true, eqb-false}
 use Rattle.definition.specs.Kind.{is_name}
 use Rattle.definition.specs.Name.{offset_of}
 use Rattle.definition.specs.NameTable.{is_held}
+use Rattle.definition.specs.Limit.{max_text}
 use Rattle.definition_laws.specs.Columns.{Columns}
+use Rattle.definition_laws.proofs.Columns.{columns-short}
 use Rattle.name_table.specs.Names.{is_first}
 use Rattle.name_table.specs.Striking.{column, PlacesBelow, Listed, slot, left, Struck, Found}
 
@@ -26,14 +28,17 @@ module _ (k p n : ℕ) (e : is_first k p n ≡ true) where
   pub first-place : offset_of n ≡ p
   first-place = eqb-true (offset_of n) p (and_elim_right (is_name k) _ e)
 
+pub few_tokens : {ks ps ns : List ℕ} → Columns ks ps ns → length ks ≤ max_text
+few_tokens c = columns-short c
+
 -- the names of the tokens before i are listed
 pub record ListedTo (ks ps ns m : List ℕ) (i : ℕ) : Type 0 where
   pub at : (j : ℕ) → j < i → is_first (get_or ks j 0) (get_or ps j 0) (get_or ns j 0) ≡ true → get_or m (get_or ps j 0) 0 ≡ j + 1
 
 module _ {ks ps ns m : List ℕ} {i : ℕ} (h : ListedTo ks ps ns m i) where
   module _ (c : Columns ks ps ns) (l : i < length ks) (below : PlacesBelow ps (length m)) where
-    pub list-more : ListedTo ks ps ns (set m (get_or ps i 0) (i + 1)) (i + 1)
-    list-more = record { at = λ j q e. go j q e (eqb j i) refl }
+    pub list_more : ListedTo ks ps ns (set m (get_or ps i 0) (i + 1)) (i + 1)
+    list_more = record { at = λ j q e. go j q e (eqb j i) refl }
       where
         go : (j : ℕ) → j < i + 1 → is_first (get_or ks j 0) (get_or ps j 0) (get_or ns j 0) ≡ true → (b : Bool) → eqb j i ≡ b → get_or (set m (get_or ps i 0) (i + 1)) (get_or ps j 0) 0 ≡ j + 1
         go j q e true t = let z : j ≡ i = eqb-true j i t in rw z (get_or-set_same m (get_or ps i 0) (i + 1) 0 (below.at i (omega (arith, c.places))))
@@ -55,8 +60,8 @@ module _ {ks ps ns m : List ℕ} {i : ℕ} (h : ListedTo ks ps ns m i) where
   pub list_all : length ks ≤ i → Listed ks ps ns m
   list_all q = record { at = λ j l e. h.at j (omega arith) e }
 
-pub list-none : {ks ps ns m : List ℕ} → ListedTo ks ps ns m 0
-list-none = record { at = λ j q e. absurd (omega arith) }
+pub list_none : {ks ps ns m : List ℕ} → ListedTo ks ps ns m 0
+list_none = record { at = λ j q e. absurd (omega arith) }
 
 -- ---- striking out
 
@@ -122,27 +127,14 @@ module _ (ns m : List ℕ) (h : ℕ) where
       go j q false e true t = let x : h ≡ get_or ns j 0 = eqb-true h (get_or ns j 0) t in absurd (out j q (sym x) (ap (λ (i : ℕ). get_or m (slot i) 0) x ∙ e))
       go j q false e false t = e
 
-  -- nor could it be
-  pub strike_past : length m ≤ slot h → Struck ns (h ∷ []) m m
-  strike_past l = strike_no (λ j q x e. omega (arith, e, get_or-eq_default m 0 l))
-
-  pub strike_none : get_or m (slot h) 0 ≡ 0 → Struck ns (h ∷ []) m m
-  strike_none z = strike_no (λ j q x e. omega (arith, e, z))
-
-  pub strike_beyond : length ns < get_or m (slot h) 0 → Struck ns (h ∷ []) m m
-  strike_beyond l = strike_no (λ j q x e. omega (arith, e))
-
-  pub strike_else : (get_or ns (get_or m (slot h) 0 - 1) 0 ≡ h → ⊥) → Struck ns (h ∷ []) m m
-  strike_else o = strike_no (λ j q x e. let k : get_or m (slot h) 0 - 1 ≡ j = omega arith in o (ap (λ (i : ℕ). get_or ns i 0) k ∙ x))
-
--- the column, one number more
-pub column-more : (w : List ℕ) (start width i : ℕ) → column w start width (i + 1) ≡ column w start width i ++ get_or w (start + width * i) 0 ∷ []
+-- a column, one number more
+pub strike_start : {ns : List ℕ} (w : List ℕ) (start width : ℕ) (m : List ℕ) → Struck ns (column w start width 0) m m
 unfolding column
-column-more w start width i = rw add-one
+strike_start w start width m = struck_none
 
-pub column-none : (w : List ℕ) (start width : ℕ) → column w start width 0 ≡ []
+pub strike_more : {ns : List ℕ} (w : List ℕ) (start width i : ℕ) {m₀ m m' : List ℕ} → Struck ns (column w start width i) m₀ m → Struck ns (get_or w (start + width * i) 0 ∷ []) m m' → Struck ns (column w start width (i + 1)) m₀ m'
 unfolding column
-column-none w start width = refl
+strike_more w start width i f g = rw add-one (struck_on f g)
 
 -- ---- what was found
 
@@ -159,9 +151,3 @@ module _ {ks ps ns m m' held : List ℕ} (c : Columns ks ps ns) where
       zero? : (i : ℕ) (b : Bool) → eqb (left b (i + 1)) 0 ≡ b
       zero? i true = refl
       zero? i false = ne_eqb (i + 1) 0 (λ y. omega arith)
-
-pub strike_more : {ns : List ℕ} (w : List ℕ) (start width i at : ℕ) {m₀ m m' : List ℕ} → at ≡ start + width * i → Struck ns (column w start width i) m₀ m → Struck ns (get_or w at 0 ∷ []) m m' → Struck ns (column w start width (i + 1)) m₀ m'
-strike_more w start width i at e f g = rw column-more (struck_on f (rw e at g))
-
-pub strike_end : {ns : List ℕ} (w : List ℕ) (start width i count : ℕ) {m₀ m : List ℕ} → i ≤ count → count ≤ i → Struck ns (column w start width i) m₀ m → Struck ns (column w start width count) m₀ m
-strike_end w start width i count p q f = let e : i ≡ count = omega arith in rw e at f

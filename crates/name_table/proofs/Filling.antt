@@ -2,8 +2,7 @@
 use mathlib.Core.Path.{◌≡◌, refl, sym, ap, ◌∙◌}
 use mathlib.Core.Bool.{Bool, true, false, ◌&&◌}
 use mathlib.Core.List.{List, [], ◌∷◌, ◌++◌, append_assoc, append-nil}
-use mathlib.Mathlib.Data.Bool.Basic.{and_elim_left}
-use Prim.Native.Nat.{ℕ, ◌+◌, ◌*◌, ◌/◌, ◌≤◌, ◌<◌}
+use Prim.Native.Nat.{ℕ, ◌+◌, ◌*◌, ◌<◌}
 use native.Mathlib.Omega.{arith}
 use lib.Dec.{eqb}
 use lib.ListN.{length, get_or, set, drop, replicate, length-append, length-replicate}
@@ -20,8 +19,7 @@ use Rattle.table.proofs.Regions.{table-long, words_long}
 use Rattle.table.proofs.Flat.{stored, region-add}
 use Rattle.definition_laws.specs.Columns.{Columns}
 use Rattle.name_table.specs.Names.{is_first, Plain}
-use Rattle.name_table.specs.Striking.{Found, Filled}
-use Rattle.name_table.proofs.Crossing.{first-place}
+use Rattle.name_table.specs.Striking.{Found, Fills, Ready}
 
 -- ---- one token more
 
@@ -73,48 +71,62 @@ no_names : (t : Table) → reading_words t (replicate (2 * max_names) 0) ≡ wor
 unfolding reading_words words padded flat
 no_names t = refl
 
-module _ {ks ps ns m w₀ : List ℕ} {t : Table} (c : Columns ks ps ns) (h : Plain t w₀) (f : Found ks ps ns m (held_names t)) where
-  pub go-start : Going ks ps ns t 0 0 w₀
-  go-start = record { done = []; holds = h.are ∙ no_names t; counted = refl; whole = refl }
+-- of whatever table the slice held
+pub record Written (ks ps ns m w₀ : List ℕ) (i count : ℕ) (w : List ℕ) : Type 0 where
+  pub of : (t : Table) → Plain t w₀ → Found ks ps ns m (held_names t) → Going ks ps ns t i count w
 
-  module _ {i count : ℕ} {w : List ℕ} (g : Going ks ps ns t i count w) where
-    pub go-end : length ks ≤ i → i ≤ length ks → Filled ks ps ns t count w
-    unfolding names_among
-    go-end p q =
-        let e : i ≡ length ks = omega arith in
+pub write_start : (ks ps ns m w : List ℕ) → Written ks ps ns m w 0 0 w
+write_start ks ps ns m w = record { of = λ t h f. record { done = []; holds = h.are ∙ no_names t; counted = refl; whole = refl } }
+
+module _ {ks ps ns m w₀ w : List ℕ} {i count : ℕ} (c : Columns ks ps ns) (g : Written ks ps ns m w₀ i count w) where
+  pub write_end : i ≡ length ks → Fills ks ps ns m w₀ count w
+  unfolding names_among
+  write_end e = record {
+    run = λ t h f.
+        let g = g.of t h f in
         let a : drop i ks ≡ [] = rw e (drop-length ks) in
         let b : names_among (held_names t) ks ps ns ≡ g.done = g.whole ∙ (ap (λ (x : List ℕ). g.done ++ names_among (held_names t) x (drop i ps) (drop i ns)) a ∙ append-nil g.done) in
-        record { are = rw b g.holds; count = rw b g.counted }
+        record { are = rw b g.holds; count = rw b g.counted };
+  }
 
-    module _ (l : i < length ks) where
-      pub go-skip : (is_first (get_or ks i 0) (get_or ps i 0) (get_or ns i 0) && eqb (get_or m (get_or ps i 0) 0) 0) ≡ false → Going ks ps ns t (i + 1) count w
-      go-skip e = record {
-        done = g.done;
-        holds = g.holds;
-        counted = g.counted;
-        whole = g.whole ∙ ap (λ (x : List ℕ). g.done ++ x) (among-step (held_names t) ks ps ns i l c.places c.numbers
-            ∙ passed (held_names t) (get_or ks i 0) (get_or ps i 0) (get_or ns i 0) _ _ (is_held (get_or ns i 0) (held_names t)) (eqb (get_or m (get_or ps i 0) 0) 0) (λ z. f.at i l z) e);
-      }
+  module _ (l : i < length ks) where
+    pub write_skip : (is_first (get_or ks i 0) (get_or ps i 0) (get_or ns i 0) && eqb (get_or m (get_or ps i 0) 0) 0) ≡ false → Written ks ps ns m w₀ (i + 1) count w
+    write_skip e = record {
+      of = λ t h f.
+          let g = g.of t h f in
+          record {
+            done = g.done;
+            holds = g.holds;
+            counted = g.counted;
+            whole = g.whole ∙ ap (λ (x : List ℕ). g.done ++ x) (among-step (held_names t) ks ps ns i l c.places c.numbers
+                ∙ passed (held_names t) (get_or ks i 0) (get_or ps i 0) (get_or ns i 0) _ _ (is_held (get_or ns i 0) (held_names t)) (eqb (get_or m (get_or ps i 0) 0) 0) (λ z. f.at i l z) e);
+          };
+    }
 
-      module _ (e : (is_first (get_or ks i 0) (get_or ps i 0) (get_or ns i 0) && eqb (get_or m (get_or ps i 0) 0) 0) ≡ true) where
-        more : names_among (held_names t) ks ps ns ≡ g.done ++ get_or ns i 0 ∷ names_among (held_names t) (drop (i + 1) ks) (drop (i + 1) ps) (drop (i + 1) ns)
-        more = g.whole ∙ ap (λ (x : List ℕ). g.done ++ x) (among-step (held_names t) ks ps ns i l c.places c.numbers
-            ∙ picked (held_names t) (get_or ks i 0) (get_or ps i 0) (get_or ns i 0) _ _ (is_held (get_or ns i 0) (held_names t)) (eqb (get_or m (get_or ps i 0) 0) 0) (λ z. f.at i l z) e)
+    module _ (e : (is_first (get_or ks i 0) (get_or ps i 0) (get_or ns i 0) && eqb (get_or m (get_or ps i 0) 0) 0) ≡ true) where
+      more : (t : Table) (f : Found ks ps ns m (held_names t)) (g : Going ks ps ns t i count w)
+          → names_among (held_names t) ks ps ns ≡ g.done ++ get_or ns i 0 ∷ names_among (held_names t) (drop (i + 1) ks) (drop (i + 1) ps) (drop (i + 1) ns)
+      more t f g = g.whole ∙ ap (λ (x : List ℕ). g.done ++ x) (among-step (held_names t) ks ps ns i l c.places c.numbers
+          ∙ picked (held_names t) (get_or ks i 0) (get_or ps i 0) (get_or ns i 0) _ _ (is_held (get_or ns i 0) (held_names t)) (eqb (get_or m (get_or ps i 0) 0) 0) (λ z. f.at i l z) e)
 
-        pub go-room : count < max_names
-        go-room = omega (arith, c.few t, g.counted, simp length-append at (ap length more))
+      room : (t : Table) (f : Found ks ps ns m (held_names t)) (g : Going ks ps ns t i count w) → count < max_names
+      room t f g = omega (arith, c.few t, g.counted, simp length-append at (ap length (more t f g)))
 
-        pub go-take : Going ks ps ns t (i + 1) (count + 1) (set (set w (names_at + 2 * count) (get_or ps i 0)) (names_at + 2 * count + 1) (get_or ns i 0 / 65536))
-        unfolding length_of
-        go-take =
-            let r = go-room in
-            let o : offset_of (get_or ns i 0) ≡ get_or ps i 0 = first-place (get_or ks i 0) (get_or ps i 0) (get_or ns i 0) (and_elim_left _ _ e) in
+      pub write_room : Ready ks ps ns m w₀ → count < max_names
+      write_room r = room r.table r.found (g.of r.table r.words r.found)
+
+      pub write_take : Written ks ps ns m w₀ (i + 1) (count + 1) (set (set w (names_at + 2 * count) (offset_of (get_or ns i 0))) (names_at + 2 * count + 1) (length_of (get_or ns i 0)))
+      write_take = record {
+        of = λ t h f.
+            let g = g.of t h f in
+            let r = room t f g in
             record {
               done = g.done ++ get_or ns i 0 ∷ [];
-              holds = rw (← o, g.holds) (write-one t h.fits g.done (get_or ns i 0) (names_at + 2 * count) (omega (arith, g.counted)) (omega (arith, g.counted)));
+              holds = rw g.holds (write-one t h.fits g.done (get_or ns i 0) (names_at + 2 * count) (omega (arith, g.counted)) (omega (arith, g.counted)));
               counted = rw length-append (omega (arith, g.counted));
-              whole = more ∙ sym (append_assoc g.done (get_or ns i 0 ∷ []) _);
-            }
+              whole = more t f g ∙ sym (append_assoc g.done (get_or ns i 0 ∷ []) _);
+            };
+      }
 
-pub plain-long : {w : List ℕ} (t : Table) → Plain t w → length w ≡ words_length
-plain-long t h = rw h.are (words_long t h.fits (replicate (2 * max_names) 0) (length-replicate {A = ℕ} (2 * max_names) 0))
+pub plain_long : {w : List ℕ} (t : Table) → Plain t w → length w ≡ words_length
+plain_long t h = rw h.are (words_long t h.fits (replicate (2 * max_names) 0) (length-replicate {A = ℕ} (2 * max_names) 0))
