@@ -100,16 +100,11 @@ fn strike_name(name: u32, numbers: &[u64], listed: &mut [u16])
 {
     let name = u64::from(name);
     let slot = (name % NAME_LENGTH) as usize;
-    let Some(listed_as) = listed.get(slot) else {
-        return;
-    };
-    let Some(token) = usize::from(*listed_as).checked_sub(1) else {
-        return;
-    };
-    let Some(number) = numbers.get(token) else {
-        return;
-    };
-    if *number == name {
+    if let Some(listed_as) = listed.get(slot)
+        && let Some(token) = usize::from(*listed_as).checked_sub(1)
+        && let Some(number) = numbers.get(token)
+        && *number == name
+    {
         listed[slot] = 0;
     }
 }
@@ -168,7 +163,7 @@ fn strike_all(w: &[u32], c: Cursor, numbers: &[u64], listed: &mut [u16])
     );
 }
 
-// Writes a name after so many.
+// Writes a name, the next after so many.
 #[tactic(auto, unfolding(definition::specs::Name::offset_of, definition::specs::Name::length_of))]
 fn put_name(w: &mut [u32], count: usize, name: u64)
     requires w_len { length w.old ≡ words_length }
