@@ -2,7 +2,7 @@
 use mathlib.Core.Path.{◌≡◌, refl, sym, ap, ◌∙◌}
 use mathlib.Core.Bool.{Bool, true, false, ◌||◌, or-false, or_assoc}
 use mathlib.Core.List.{List, [], ◌∷◌, ◌++◌}
-use mathlib.Mathlib.Data.Bool.Basic.{and_elim_left, and_elim_right}
+use mathlib.Mathlib.Data.Bool.Basic.{and_elim_right}
 use Prim.Native.Nat.{ℕ, ◌+◌, ◌-◌, ◌*◌, ◌≤◌, ◌<◌}
 use native.Mathlib.Omega.{arith}
 use native.Mathlib.Numerals.{add-one}
@@ -11,7 +11,6 @@ use lib.ListN.{length, get_or, set}
 use lib.Seq.{get_or-set_same, get_or-set_other}
 use borrow.Author.Tests.{ne_eqb, eqb-true, eqb-false}
 use Rattle.definition.specs.Kind.{is_name}
-use Rattle.definition.specs.Name.{offset_of}
 use Rattle.definition.specs.NameTable.{is_held}
 use Rattle.definition.specs.Limit.{max_text}
 use Rattle.definition_laws.specs.Columns.{Columns}
@@ -21,39 +20,32 @@ use Rattle.name_table.specs.Striking.{column, PlacesBelow, Listed, slot, left, S
 
 -- ---- listing
 
-module _ (k p n : ℕ) (e : is_first k p n ≡ true) where
-  pub first-name : is_name k ≡ true
-  first-name = and_elim_left (is_name k) _ e
-
-  pub first-place : offset_of n ≡ p
-  first-place = eqb-true (offset_of n) p (and_elim_right (is_name k) _ e)
-
 pub few_tokens : {ks ps ns : List ℕ} → Columns ks ps ns → length ks ≤ max_text
 few_tokens c = columns-short c
 
 -- the names of the tokens before i are listed
 pub record ListedTo (ks ps ns m : List ℕ) (i : ℕ) : Type 0 where
-  pub at : (j : ℕ) → j < i → is_first (get_or ks j 0) (get_or ps j 0) (get_or ns j 0) ≡ true → get_or m (get_or ps j 0) 0 ≡ j + 1
+  pub at : (j : ℕ) → j < i → is_first ks ps ns j ≡ true → get_or m (get_or ps j 0) 0 ≡ j + 1
 
 module _ {ks ps ns m : List ℕ} {i : ℕ} (h : ListedTo ks ps ns m i) where
   module _ (c : Columns ks ps ns) (l : i < length ks) (below : PlacesBelow ps (length m)) where
     pub list_more : ListedTo ks ps ns (set m (get_or ps i 0) (i + 1)) (i + 1)
     list_more = record { at = λ j q e. go j q e (eqb j i) refl }
       where
-        go : (j : ℕ) → j < i + 1 → is_first (get_or ks j 0) (get_or ps j 0) (get_or ns j 0) ≡ true → (b : Bool) → eqb j i ≡ b → get_or (set m (get_or ps i 0) (i + 1)) (get_or ps j 0) 0 ≡ j + 1
+        go : (j : ℕ) → j < i + 1 → is_first ks ps ns j ≡ true → (b : Bool) → eqb j i ≡ b → get_or (set m (get_or ps i 0) (i + 1)) (get_or ps j 0) 0 ≡ j + 1
         go j q e true t = let z : j ≡ i = eqb-true j i t in rw z (get_or-set_same m (get_or ps i 0) (i + 1) 0 (below.at i (omega (arith, c.places))))
         go j q e false t =
             let z : j < i = omega (arith, eqb-false j i t) in
             let r = c.rising j i z l in
             get_or-set_other m (get_or ps i 0) (get_or ps j 0) (i + 1) 0 (λ y. omega arith) ∙ h.at j z e
 
-  pub list_same : is_first (get_or ks i 0) (get_or ps i 0) (get_or ns i 0) ≡ false → ListedTo ks ps ns m (i + 1)
+  pub list_same : is_first ks ps ns i ≡ false → ListedTo ks ps ns m (i + 1)
   list_same f = record { at = λ j q e. go j q e (eqb j i) refl }
     where
-      go : (j : ℕ) → j < i + 1 → is_first (get_or ks j 0) (get_or ps j 0) (get_or ns j 0) ≡ true → (b : Bool) → eqb j i ≡ b → get_or m (get_or ps j 0) 0 ≡ j + 1
+      go : (j : ℕ) → j < i + 1 → is_first ks ps ns j ≡ true → (b : Bool) → eqb j i ≡ b → get_or m (get_or ps j 0) 0 ≡ j + 1
       go j q e true t =
           let z : j ≡ i = eqb-true j i t in
-          let u : is_first (get_or ks i 0) (get_or ps i 0) (get_or ns i 0) ≡ true = rw z at e in
+          let u : is_first ks ps ns i ≡ true = rw z at e in
           let y : ◌≡◌ {A = ℕ} 0 1 = cc in absurd (omega arith)
       go j q e false t = h.at j (omega (arith, eqb-false j i t)) e
 
@@ -142,7 +134,7 @@ module _ {ks ps ns m m' held : List ℕ} (c : Columns ks ps ns) where
   pub found : Listed ks ps ns m → Struck ns held m m' → Found ks ps ns m' held
   found l s = record {
     at = λ i q e.
-        let p : slot (get_or ns i 0) ≡ get_or ps i 0 = first-place (get_or ks i 0) (get_or ps i 0) (get_or ns i 0) e in
+        let p : slot (get_or ns i 0) ≡ get_or ps i 0 = eqb-true (slot (get_or ns i 0)) (get_or ps i 0) (and_elim_right (is_name (get_or ks i 0)) _ e) in
         let r : get_or m (slot (get_or ns i 0)) 0 ≡ left false (i + 1) = ap (λ (x : ℕ). get_or m x 0) p ∙ l.at i q e in
         let u : get_or m' (get_or ps i 0) 0 ≡ left (is_held (get_or ns i 0) held) (i + 1) = ap (λ (x : ℕ). get_or m' x 0) (sym p) ∙ s.at i (omega (arith, c.numbers)) false r in
         ap (λ (x : ℕ). eqb x 0) u ∙ zero? i (is_held (get_or ns i 0) held);

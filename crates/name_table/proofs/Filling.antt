@@ -19,7 +19,7 @@ use Rattle.table.proofs.Regions.{table-long, words_long}
 use Rattle.table.proofs.Flat.{stored, region-add}
 use Rattle.definition_laws.specs.Columns.{Columns}
 use Rattle.name_table.specs.Names.{is_first, Plain}
-use Rattle.name_table.specs.Striking.{Found, Fills, Ready}
+use Rattle.name_table.specs.Striking.{is_found, Found, Fills, Ready}
 
 -- ---- one token more
 
@@ -39,7 +39,7 @@ module _ (held ks ps ns : List ℕ) (i : ℕ) (l : i < length ks) (q : length ps
   abbrev later : ℕ → List ℕ
   later j = names_among held (drop j ks) (drop j ps) (drop j ns)
 
-  among-step : later i ≡ pick held (get_or ks i 0) (get_or ps i 0) (get_or ns i 0) (later (i + 1)) (is_first (get_or ks i 0) (get_or ps i 0) (get_or ns i 0)) (is_held (get_or ns i 0) held)
+  among-step : later i ≡ pick held (get_or ks i 0) (get_or ps i 0) (get_or ns i 0) (later (i + 1)) (is_first ks ps ns i) (is_held (get_or ns i 0) held)
   unfolding names_among
   among-step =
       let a : drop i ks ≡ get_or ks i 0 ∷ drop (i + 1) ks = drop-next ks i 0 l in
@@ -90,7 +90,7 @@ module _ {ks ps ns m w₀ w : List ℕ} {i count : ℕ} (c : Columns ks ps ns) (
   }
 
   module _ (l : i < length ks) where
-    pub write_skip : (is_first (get_or ks i 0) (get_or ps i 0) (get_or ns i 0) && eqb (get_or m (get_or ps i 0) 0) 0) ≡ false → Written ks ps ns m w₀ (i + 1) count w
+    pub write_skip : is_found ks ps ns m i ≡ false → Written ks ps ns m w₀ (i + 1) count w
     write_skip e = record {
       of = λ t h f.
           let g = g.of t h f in
@@ -103,7 +103,7 @@ module _ {ks ps ns m w₀ w : List ℕ} {i count : ℕ} (c : Columns ks ps ns) (
           };
     }
 
-    module _ (e : (is_first (get_or ks i 0) (get_or ps i 0) (get_or ns i 0) && eqb (get_or m (get_or ps i 0) 0) 0) ≡ true) where
+    module _ (e : is_found ks ps ns m i ≡ true) where
       more : (t : Table) (f : Found ks ps ns m (held_names t)) (g : Going ks ps ns t i count w)
           → names_among (held_names t) ks ps ns ≡ g.done ++ get_or ns i 0 ∷ names_among (held_names t) (drop (i + 1) ks) (drop (i + 1) ps) (drop (i + 1) ns)
       more t f g = g.whole ∙ ap (λ (x : List ℕ). g.done ++ x) (among-step (held_names t) ks ps ns i l c.places c.numbers

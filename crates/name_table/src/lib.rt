@@ -1,14 +1,14 @@
 #![tactic(auto)]
 // The names of a table, written into the lent slice when the text is read. Each name of the text is listed at its first place, by the index of its token and 1; those that an entry holds
 // are struck out; the ones struck out are written, in the order of the tokens.
-ghost use Rattle.std.specs.Prelude.{◌≡◌, ◌&&◌, [], ◌∷◌, ◌+◌, ◌*◌, ◌^◌, ◌≤◌, ◌<◌, eqb, length, get_or, set};
+ghost use Rattle.std.specs.Prelude.{◌≡◌, [], ◌∷◌, ◌+◌, ◌*◌, ◌^◌, ◌≤◌, ◌<◌, length, set};
 ghost use Rattle.definition.specs.Limit.{max_names};
 ghost use Rattle.definition.specs.Name.{offset_of, length_of};
 ghost use Rattle.definition.specs.Region.{words_length, names_at};
 ghost use Rattle.definition_laws.specs.Columns.{Columns};
 ghost use Rattle.table.specs.Held.{Room};
 ghost use Rattle.name_table.specs.Names.{is_first, HeldWords, Writes};
-ghost use Rattle.name_table.specs.Striking.{column, PlacesBelow, Listed, Struck, Strikes, Ready, Fills, PlainWords, WritesPlain};
+ghost use Rattle.name_table.specs.Striking.{column, PlacesBelow, Listed, Struck, Strikes, is_found, Ready, Fills, PlainWords, WritesPlain};
 
 use encoding::names::NAME_UNIT;
 use encoding::regions::{
@@ -37,7 +37,7 @@ impl Tokens<'_> {
     #[tactic(auto, unfolding(definition::specs::Name::offset_of))]
     fn is_first(&self, i: usize) -> bool
         requires { i < length self.now.kinds.now }
-        ensures { result ≡ is_first (get_or self.now.kinds.now i 0) (get_or self.now.places.now i 0) (get_or self.now.numbers.now i 0) }
+        ensures { result ≡ is_first self.now.kinds.now self.now.places.now self.now.numbers.now i }
     {
         is_name(self.kinds[i]) && self.numbers[i] % NAME_LENGTH == u64::from(self.places[i])
     }
@@ -46,7 +46,7 @@ impl Tokens<'_> {
     fn is_found(&self, i: usize, listed: &[u16]) -> bool
         requires in_bounds { i < length self.now.kinds.now }
         requires places_below { PlacesBelow self.now.places.now (length listed.now) }
-        ensures { result ≡ (is_first (get_or self.now.kinds.now i 0) (get_or self.now.places.now i 0) (get_or self.now.numbers.now i 0) && eqb (get_or listed.now (get_or self.now.places.now i 0) 0) 0) }
+        ensures { result ≡ is_found self.now.kinds.now self.now.places.now self.now.numbers.now listed.now i }
     {
         self.is_first(i) && listed[self.places[i] as usize] == 0
     }
