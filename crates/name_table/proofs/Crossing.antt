@@ -1,6 +1,6 @@
 -- Names that are listed and struck out. Assumes nothing.
 use mathlib.Core.Path.{◌≡◌, refl, sym, ap, ◌∙◌}
-use mathlib.Core.Bool.{Bool, true, false, ◌||◌, or-false, or_assoc}
+use mathlib.Core.Bool.{Bool, true, false, ◌||◌, false≢true, or-false, or_assoc}
 use mathlib.Core.List.{List, [], ◌∷◌, ◌++◌}
 use mathlib.Mathlib.Data.Bool.Basic.{and_elim_right}
 use Prim.Native.Nat.{ℕ, ◌+◌, ◌-◌, ◌*◌, ◌≤◌, ◌<◌}
@@ -33,7 +33,7 @@ module _ {ks ps ns m : List ℕ} {i : ℕ} (h : ListedTo ks ps ns m i) where
     list_more = record { at = λ j q e. go j q e (eqb j i) refl }
       where
         go : (j : ℕ) → j < i + 1 → is_first ks ps ns j ≡ true → (b : Bool) → eqb j i ≡ b → get_or (set m (get_or ps i 0) (i + 1)) (get_or ps j 0) 0 ≡ j + 1
-        go j q e true t = let z : j ≡ i = eqb-true j i t in rw z (get_or-set_same m (get_or ps i 0) (i + 1) 0 (below.at i (omega (arith, c.places))))
+        go j q e true t = rw (eqb-true j i t) (get_or-set_same m (get_or ps i 0) (i + 1) 0 (below.at i (omega (arith, c.places))))
         go j q e false t =
             let z : j < i = omega (arith, eqb-false j i t) in
             let r = c.rising j i z l in
@@ -43,10 +43,7 @@ module _ {ks ps ns m : List ℕ} {i : ℕ} (h : ListedTo ks ps ns m i) where
   list_same f = record { at = λ j q e. go j q e (eqb j i) refl }
     where
       go : (j : ℕ) → j < i + 1 → is_first ks ps ns j ≡ true → (b : Bool) → eqb j i ≡ b → get_or m (get_or ps j 0) 0 ≡ j + 1
-      go j q e true t =
-          let z : j ≡ i = eqb-true j i t in
-          let u : is_first ks ps ns i ≡ true = rw z at e in
-          let y : ◌≡◌ {A = ℕ} 0 1 = cc in absurd (omega arith)
+      go j q e true t = absurd (false≢true (sym f ∙ (rw (eqb-true j i t) at e)))
       go j q e false t = h.at j (omega (arith, eqb-false j i t)) e
 
   pub list_all : length ks ≤ i → Listed ks ps ns m
@@ -90,25 +87,18 @@ struck_on {ns} {hs} {gs} f g = record {
 -- one name: it was listed,
 module _ (ns m : List ℕ) (h : ℕ) where
   pub strike_it : slot h < length m → 0 < get_or m (slot h) 0 → get_or ns (get_or m (slot h) 0 - 1) 0 ≡ h → Struck ns (h ∷ []) m (set m (slot h) 0)
-  strike_it l z is = record { at = λ j q b e. go j b e (eqb (slot (get_or ns j 0)) (slot h)) refl ∙ ap (λ (x : Bool). left (b || x) (j + 1)) (sym (held_one (get_or ns j 0) h)) }
+  strike_it l z is = record { at = λ j q b e. go j b e (eqb (slot (get_or ns j 0)) (slot h)) refl (eqb h (get_or ns j 0)) refl ∙ ap (λ (x : Bool). left (b || x) (j + 1)) (sym (held_one (get_or ns j 0) h)) }
     where
-      same : (j : ℕ) (b : Bool) → get_or m (slot (get_or ns j 0)) 0 ≡ left b (j + 1) → slot (get_or ns j 0) ≡ slot h → (d : Bool) → eqb h (get_or ns j 0) ≡ d → 0 ≡ left (b || d) (j + 1)
-      same j true e s d t = refl
-      same j false e s true t = refl
-      same j false e s false t =
-          let x : get_or m (slot h) 0 ≡ j + 1 = ap (λ (i : ℕ). get_or m i 0) (sym s) ∙ e in
-          let k : get_or m (slot h) 0 - 1 ≡ j = omega arith in
-          let y : get_or ns j 0 ≡ h = ap (λ (i : ℕ). get_or ns i 0) (sym k) ∙ is in absurd (eqb-false h (get_or ns j 0) t (sym y))
-
-      other : (j : ℕ) (b : Bool) → get_or m (slot (get_or ns j 0)) 0 ≡ left b (j + 1) → (slot (get_or ns j 0) ≡ slot h → ⊥) → (d : Bool) → eqb h (get_or ns j 0) ≡ d → get_or m (slot (get_or ns j 0)) 0 ≡ left (b || d) (j + 1)
-      other j true e s d t = e
-      other j false e s true t = let x : h ≡ get_or ns j 0 = eqb-true h (get_or ns j 0) t in absurd (s (ap slot (sym x)))
-      other j false e s false t = e
-
-      go : (j : ℕ) (b : Bool) → get_or m (slot (get_or ns j 0)) 0 ≡ left b (j + 1) → (d : Bool) → eqb (slot (get_or ns j 0)) (slot h) ≡ d → get_or (set m (slot h) 0) (slot (get_or ns j 0)) 0 ≡ left (b || eqb h (get_or ns j 0)) (j + 1)
-      go j b e true t = let s : slot (get_or ns j 0) ≡ slot h = eqb-true (slot (get_or ns j 0)) (slot h) t in
-          (rw s (get_or-set_same m (slot h) 0 0 l)) ∙ same j b e s (eqb h (get_or ns j 0)) refl
-      go j b e false t = let s = eqb-false (slot (get_or ns j 0)) (slot h) t in get_or-set_other m (slot h) (slot (get_or ns j 0)) 0 0 s ∙ other j b e s (eqb h (get_or ns j 0)) refl
+      go : (j : ℕ) (b : Bool) → get_or m (slot (get_or ns j 0)) 0 ≡ left b (j + 1) → (s : Bool) → eqb (slot (get_or ns j 0)) (slot h) ≡ s → (d : Bool) → eqb h (get_or ns j 0) ≡ d
+          → get_or (set m (slot h) 0) (slot (get_or ns j 0)) 0 ≡ left (b || d) (j + 1)
+      go j b e true s d t = rw (eqb-true _ _ s) (get_or-set_same m (slot h) 0 0 l) ∙ same b d (rw (eqb-true _ _ s) at e) t
+        where
+          same : (b d : Bool) → get_or m (slot h) 0 ≡ left b (j + 1) → eqb h (get_or ns j 0) ≡ d → 0 ≡ left (b || d) (j + 1)
+          same true d e t = refl
+          same false true e t = refl
+          same false false e t = let k : get_or m (slot h) 0 - 1 ≡ j = omega arith in absurd (eqb-false h _ t (sym (ap (λ (i : ℕ). get_or ns i 0) (sym k) ∙ is)))
+      go j b e false s true t = absurd (eqb-false _ _ s (ap slot (sym (eqb-true h _ t))))
+      go j b e false s false t = get_or-set_other m (slot h) _ 0 0 (eqb-false _ _ s) ∙ e ∙ ap (λ (x : Bool). left x (j + 1)) (sym (or-false b))
 
   -- or it was not
   pub strike_no : ((j : ℕ) → j < length ns → get_or ns j 0 ≡ h → get_or m (slot h) 0 ≡ j + 1 → ⊥) → Struck ns (h ∷ []) m m
@@ -116,7 +106,7 @@ module _ (ns m : List ℕ) (h : ℕ) where
     where
       go : (j : ℕ) → j < length ns → (b : Bool) → get_or m (slot (get_or ns j 0)) 0 ≡ left b (j + 1) → (d : Bool) → eqb h (get_or ns j 0) ≡ d → get_or m (slot (get_or ns j 0)) 0 ≡ left (b || d) (j + 1)
       go j q true e d t = e
-      go j q false e true t = let x : h ≡ get_or ns j 0 = eqb-true h (get_or ns j 0) t in absurd (out j q (sym x) (ap (λ (i : ℕ). get_or m (slot i) 0) x ∙ e))
+      go j q false e true t = let x = eqb-true h (get_or ns j 0) t in absurd (out j q (sym x) (ap (λ (i : ℕ). get_or m (slot i) 0) x ∙ e))
       go j q false e false t = e
 
 -- a column, one number more

@@ -1,10 +1,9 @@
 -- The names written one after the other. Assumes nothing.
 use mathlib.Core.Path.{◌≡◌, refl, sym, ap, ◌∙◌}
-use mathlib.Core.Bool.{Bool, true, false, ◌&&◌}
+use mathlib.Core.Bool.{Bool, true, false, ◌&&◌, false≢true}
 use mathlib.Core.List.{List, [], ◌∷◌, ◌++◌, append_assoc, append-nil}
 use Prim.Native.Nat.{ℕ, ◌+◌, ◌*◌, ◌<◌}
 use native.Mathlib.Omega.{arith}
-use lib.Dec.{eqb}
 use lib.ListN.{length, get_or, set, drop, replicate, length-append, length-replicate}
 use lib.Seq.{drop-length}
 use Rattle.definition.specs.Name.{offset_of, length_of}
@@ -23,31 +22,25 @@ use Rattle.name_table.specs.Striking.{is_found, Found, Fills, Ready}
 
 -- ---- one token more
 
-module _ (held : List ℕ) (k p n : ℕ) (rest : List ℕ) where
+module _ (n : ℕ) (rest : List ℕ) where
   abbrev pick : Bool → Bool → List ℕ
   pick a b = elim a [ true ↦ elim b [ true ↦ n ∷ rest | false ↦ rest ] | false ↦ rest ]
 
   picked : (a b z : Bool) → (a ≡ true → z ≡ b) → (a && z) ≡ true → pick a b ≡ n ∷ rest
-  picked true b z h e = let x : b ≡ true = sym (h refl) ∙ e in rw x
-  picked false b z h e = let x : ◌≡◌ {A = ℕ} 0 1 = cc in absurd (omega arith)
+  picked true b z h e = rw (sym (h refl) ∙ e)
+  picked false b z h e = absurd (false≢true e)
 
   passed : (a b z : Bool) → (a ≡ true → z ≡ b) → (a && z) ≡ false → pick a b ≡ rest
-  passed true b z h e = let x : b ≡ false = sym (h refl) ∙ e in rw x
+  passed true b z h e = rw (sym (h refl) ∙ e)
   passed false b z h e = refl
 
-module _ (held ks ps ns : List ℕ) (i : ℕ) (l : i < length ks) (q : length ps ≡ length ks) (r : length ns ≡ length ks) where
+module _ (held ks ps ns : List ℕ) (i : ℕ) (l : i < length ks) (c : Columns ks ps ns) where
   abbrev later : ℕ → List ℕ
   later j = names_among held (drop j ks) (drop j ps) (drop j ns)
 
-  among-step : later i ≡ pick held (get_or ks i 0) (get_or ps i 0) (get_or ns i 0) (later (i + 1)) (is_first ks ps ns i) (is_held (get_or ns i 0) held)
+  among-step : later i ≡ pick (get_or ns i 0) (later (i + 1)) (is_first ks ps ns i) (is_held (get_or ns i 0) held)
   unfolding names_among
-  among-step =
-      let a : drop i ks ≡ get_or ks i 0 ∷ drop (i + 1) ks = drop-next ks i 0 l in
-      let b : drop i ps ≡ get_or ps i 0 ∷ drop (i + 1) ps = drop-next ps i 0 (omega arith) in
-      let c : drop i ns ≡ get_or ns i 0 ∷ drop (i + 1) ns = drop-next ns i 0 (omega arith) in
-      ap (λ (x : List ℕ). names_among held x (drop i ps) (drop i ns)) a
-      ∙ (ap (λ (x : List ℕ). names_among held (get_or ks i 0 ∷ drop (i + 1) ks) x (drop i ns)) b
-      ∙ ap (λ (x : List ℕ). names_among held (get_or ks i 0 ∷ drop (i + 1) ks) (get_or ps i 0 ∷ drop (i + 1) ps) x) c)
+  among-step = rw (drop-next ks i 0 l, drop-next ps i 0 (omega (arith, c.places)), drop-next ns i 0 (omega (arith, c.numbers)))
 
 -- ---- the loop
 
@@ -98,16 +91,14 @@ module _ {ks ps ns m w₀ w : List ℕ} {i count : ℕ} (c : Columns ks ps ns) (
             done = g.done;
             holds = g.holds;
             counted = g.counted;
-            whole = g.whole ∙ ap (λ (x : List ℕ). g.done ++ x) (among-step (held_names t) ks ps ns i l c.places c.numbers
-                ∙ passed (held_names t) (get_or ks i 0) (get_or ps i 0) (get_or ns i 0) _ _ (is_held (get_or ns i 0) (held_names t)) (eqb (get_or m (get_or ps i 0) 0) 0) (λ z. f.at i l z) e);
+            whole = g.whole ∙ ap (λ (x : List ℕ). g.done ++ x) (among-step (held_names t) ks ps ns i l c ∙ passed _ _ (is_first ks ps ns i) _ _ (f.at i l) e);
           };
     }
 
     module _ (e : is_found ks ps ns m i ≡ true) where
       more : (t : Table) (f : Found ks ps ns m (held_names t)) (g : Going ks ps ns t i count w)
           → names_among (held_names t) ks ps ns ≡ g.done ++ get_or ns i 0 ∷ names_among (held_names t) (drop (i + 1) ks) (drop (i + 1) ps) (drop (i + 1) ns)
-      more t f g = g.whole ∙ ap (λ (x : List ℕ). g.done ++ x) (among-step (held_names t) ks ps ns i l c.places c.numbers
-          ∙ picked (held_names t) (get_or ks i 0) (get_or ps i 0) (get_or ns i 0) _ _ (is_held (get_or ns i 0) (held_names t)) (eqb (get_or m (get_or ps i 0) 0) 0) (λ z. f.at i l z) e)
+      more t f g = g.whole ∙ ap (λ (x : List ℕ). g.done ++ x) (among-step (held_names t) ks ps ns i l c ∙ picked _ _ (is_first ks ps ns i) _ _ (f.at i l) e)
 
       room : (t : Table) (f : Found ks ps ns m (held_names t)) (g : Going ks ps ns t i count w) → count < max_names
       room t f g = omega (arith, c.few t, g.counted, simp length-append at (ap length (more t f g)))
