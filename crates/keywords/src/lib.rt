@@ -28,7 +28,7 @@ fn slot(word: &[u8]) -> usize
     (33 * (n % 256) + 32 * a + 691 * m + 106 * b) / 8 % 128
 }
 
-// What stands in a slot: a spelling and its kind. In an empty one stands no word, so that all slots are alike and the compiler makes tables of them.
+// What stands in a slot: a spelling and its kind. An empty slot holds no word, and is as the others are, so that the compiler makes tables of them.
 #[tactic(auto, unfolding(crate::specs::Slots::spelling_of, crate::specs::Slots::spellings, crate::specs::Slots::none, definition::specs::Text::bytes, definition::specs::Text::same, definition::specs::Word::kind_of, definition::specs::Word::kind_among, definition::specs::Word::words, definition::specs::Word::attribute_words, definition::specs::Word::keywords, definition::specs::Word::builtin_names))]
 fn spelled(slot: usize) -> (&'static [u8], u32)
     requires { slot < 128 }
@@ -107,7 +107,8 @@ fn spelled(slot: usize) -> (&'static [u8], u32)
     }
 }
 
-// The kind of a word.
+// The kind of a word. Never inlined: into a caller that tests the kind, the slots become jumps and no tables.
+#[inline(never)]
 #[tactic(auto, using(crate::proofs::Slotted::missed, crate::proofs::Slotted::no_letters))]
 pub fn kind_of(word: &[u8]) -> u32
     ensures { result ≡ kind_of word.now }
