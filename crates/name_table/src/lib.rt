@@ -39,7 +39,7 @@ impl Tokens<'_> {
         requires { i < length self.now.kinds.now }
         ensures { result ≡ is_first self.now.kinds.now self.now.places.now self.now.numbers.now i }
     {
-        is_name(self.kinds[i]) && self.numbers[i] % NAME_LENGTH == u64::from(self.places[i])
+        is_name(self.kinds[i]) & (self.numbers[i] % NAME_LENGTH == u64::from(self.places[i]))
     }
 
     // A token is a name at its first place, and was struck out.
@@ -48,7 +48,7 @@ impl Tokens<'_> {
         requires places_below { PlacesBelow self.now.places.now (length listed.now) }
         ensures { result ≡ is_found self.now.kinds.now self.now.places.now self.now.numbers.now listed.now i }
     {
-        self.is_first(i) && listed[self.places[i] as usize] == 0
+        self.is_first(i) & (listed[self.places[i] as usize] == 0)
     }
 
     // Lists each name of the text at its first place.
