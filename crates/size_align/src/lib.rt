@@ -91,16 +91,8 @@ pub fn or_one(a: Option<u64>) -> u64
     a.unwrap_or(1)
 }
 
-// What alignments need beside the slices: how many members there are, and of the model the alignment of a pointer and the cap. It is lent, so that a call copies
-// nothing and a search keeps its state in registers. The slices go beside it: their lengths are then known where this is compiled, and are not tested.
-#[derive(Clone, Copy)]
-struct Needs {
-    members: usize,
-    pointer: u64,
-    most: u64,
-}
-
-// Below, an alignment is a number, 0 where there is none: with options in its place a scalar's alignment takes half as long again.
+// Below, an alignment is a number, 0 where there is none, and of the model there are the alignment of a pointer and the cap: a call then copies nothing. With
+// options in their place a scalar's alignment takes half as long again.
 
 // A scalar's alignment: its size, at least 1 and at most the cap.
 fn capped(most: u64, size: u64) -> u64
@@ -123,15 +115,15 @@ fn own_align(pointer: u64, most: u64, kind: u32, extent: u64) -> u64
 }
 
 // The alignment of a row that goes by a scalar; 0 says nothing. Most members are such, and need no call.
-fn scalar_align(s: &Needs, w: &[u32], d: &[u64], n: u32, levels: u32) -> u64
-    ensures { ScalarIs levels s.now.pointer s.now.most n w.now d.now result }
+fn scalar_align(pointer: u64, most: u64, w: &[u32], d: &[u64], n: u32, levels: u32) -> u64
+    ensures { ScalarIs levels pointer most n w.now d.now result }
 {
     let mut row = n;
     for _ in 0..levels {
         let kind = row_kind(w, row);
         if !goes_by_another(kind) {
             let extent = row_extent(d, row);
-            return own_align(s.pointer, s.most, kind, extent);
+            return own_align(pointer, most, kind, extent);
         }
         row = row_target(w, row);
     }
@@ -140,8 +132,16 @@ fn scalar_align(s: &Needs, w: &[u32], d: &[u64], n: u32, levels: u32) -> u64
 
 // The alignment of a row as far as `levels` rows deep.
 #[cycle(align_within_strictest)]
-fn align_within(s: &Needs, w: &[u32], d: &[u64], n: u32, levels: u32) -> u64
-    ensures { WithinIs levels s.now.pointer s.now.most s.now.members n w.now d.now result }
+fn align_within(
+    pointer: u64,
+    most: u64,
+    w: &[u32],
+    d: &[u64],
+    members: usize,
+    n: u32,
+    levels: u32,
+) -> u64
+    ensures { WithinIs levels pointer most members n w.now d.now result }
 {
     if levels == 0 {
         return 0;
@@ -149,29 +149,37 @@ fn align_within(s: &Needs, w: &[u32], d: &[u64], n: u32, levels: u32) -> u64
     let kind = row_kind(w, n);
     match kind {
         STRUCT_KIND | UNION_KIND => {
-            let best = strictest(s, w, d, n, levels - 1);
+            let best = strictest(pointer, most, w, d, members, n, levels - 1);
             best.max(1)
         }
         ARRAY_KIND | TYPEDEF_KIND | QUALIFIED_KIND => {
             let under = row_target(w, n);
-            align_within(s, w, d, under, levels - 1)
+            align_within(pointer, most, w, d, members, under, levels - 1)
         }
         _ => {
             let extent = row_extent(d, n);
-            own_align(s.pointer, s.most, kind, extent)
+            own_align(pointer, most, kind, extent)
         }
     }
 }
 
 // The largest alignment of a row's members: from its first entry on, as many as it has that carry it.
 #[cycle(align_within_strictest)]
-fn strictest(s: &Needs, w: &[u32], d: &[u64], n: u32, levels: u32) -> u64
-    ensures { StrictestIs levels s.now.pointer s.now.most s.now.members n w.now d.now result }
+fn strictest(
+    pointer: u64,
+    most: u64,
+    w: &[u32],
+    d: &[u64],
+    members: usize,
+    n: u32,
+    levels: u32,
+) -> u64
+    ensures { StrictestIs levels pointer most members n w.now d.now result }
 {
     let first = row_first(w, n) as usize;
     let mut left = row_count(w, n);
     let mut best = 0;
-    for i in first..s.members {
+    for i in first..members {
         if left == 0 {
             return best;
         }
@@ -180,12 +188,12 @@ fn strictest(s: &Needs, w: &[u32], d: &[u64], n: u32, levels: u32) -> u64
         }
         let ty = member_type(w, i);
         left -= 1;
-        let scalar = scalar_align(s, w, d, ty, levels);
+        let scalar = scalar_align(pointer, most, w, d, ty, levels);
         if scalar != 0 {
             best = best.max(scalar);
             continue;
         }
-        let a = align_within(s, w, d, ty, levels);
+        let a = align_within(pointer, most, w, d, members, ty, levels);
         best = best.max(a);
     }
     best
@@ -197,11 +205,6 @@ pub fn align_of(m: Model, w: &[u32], d: &[u64], members: usize, n: u32) -> Optio
 {
     let most = m.max_align.max(1);
     let pointer = capped(most, m.pointer);
-    let s = Needs {
-        members,
-        pointer,
-        most,
-    };
-    let a = align_within(&s, w, d, n, Model::ALIGN_LEVELS);
+    let a = align_within(pointer, most, w, d, members, n, Model::ALIGN_LEVELS);
     if a == 0 { None } else { Some(a) }
 }

@@ -16,5 +16,5 @@ abbrev pub decreases-strictest : goal.decreases-strictest
 decreases-strictest l = 2 * l.levels + 1
 
 abbrev pub invariant-strictest-loop-i : goal.invariant-strictest-loop-i
-invariant-strictest-loop-i l = (m : Model) → Caps m l.s.pointer l.s.most → (t : Table) → InWords t l.w → Extents t l.d → l.s.members ≡ length t.members
+invariant-strictest-loop-i l = (m : Model) → Caps m l.pointer l.most → (t : Table) → InWords t l.w → Extents t l.d → l.members ≡ length t.members
     → Gathers (λ k. align_within l.levels m t k) l.n t.members l.i l.left (meant l.best) (largest (λ k. align_within l.levels m t k) (carrying (λ x. x.row) l.n l.initial.left (drop l.initial.i t.members)))
