@@ -1,7 +1,6 @@
--- The table of words as the code keeps it: a word's slot, the spelling of each slot, and spellings and rows of slots as numbers. Assumes nothing.
-use Rattle.std.specs.Prelude.{Bool, true, false, List, [], ◌∷◌, map, ℕ, ◌+◌, ◌-◌, ◌*◌, ◌/◌, ◌%◌, eqb, length, take, drop, get_or}
+-- The table of words as the code keeps it: a word's slot, and the spelling of each slot. Assumes nothing.
+use Rattle.std.specs.Prelude.{List, [], ◌∷◌, ℕ, ◌+◌, ◌-◌, ◌*◌, ◌/◌, ◌%◌, length, get_or}
 use Rattle.definition.specs.Text.{Bytes, bytes, byte_at}
-use Rattle.definition.specs.Word.{kind_of}
 
 -- no two words have the same slot: by length, first, middle and last byte
 unfoldable pub slot_of : Bytes → ℕ
@@ -30,25 +29,3 @@ spellings =
 
 unfoldable pub spelling_of : ℕ → Bytes
 spelling_of h = get_or spellings h none
-
--- numbers as one number, the first one lowest
-unfoldable pub packed : ℕ → List ℕ → ℕ
-packed base [] = 0
-packed base (x ∷ xs) = x + base * packed base xs
-
-unfoldable pub size_row : ℕ → ℕ
-size_row i = packed 16 (map length (take 16 (drop (16 * i) spellings)))
-
-unfoldable pub kind_row : ℕ → ℕ
-kind_row i = packed 256 (map kind_of (take 8 (drop (8 * i) spellings)))
-
-unfoldable pub first_letters : ℕ → ℕ
-first_letters h = packed 256 (take 8 (spelling_of h))
-
-unfoldable pub last_letters : ℕ → ℕ
-last_letters h = packed 256 (drop 8 (spelling_of h))
-
--- bytes are the letters of a number
-unfoldable pub spells : ℕ → Bytes → Bool
-spells p [] = true
-spells p (b ∷ bs) = elim (eqb b (p % 256)) [ true ↦ spells (p / 256) bs | false ↦ false ]
