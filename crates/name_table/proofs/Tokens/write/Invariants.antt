@@ -1,5 +1,0 @@
-use Rattle.name_table.proofs.Filling.{Written}
-use Rattle.name_table.proofs.Tokens.write.Given as goal
-
-abbrev pub invariant-loop-i : goal.invariant-loop-i
-invariant-loop-i l = Written l.self.kinds.now l.self.places.now l.self.numbers.now l.listed l.initial.w l.i l.count l.w
