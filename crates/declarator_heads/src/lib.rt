@@ -51,7 +51,7 @@ pub fn stars(kinds: &[u32], c: Cursor, s: Steps) -> Starred
             return Starred { answer, steps: t };
         }
         let (q, next) = qualifiers_here(kinds, at + 1);
-        t = t.hold_star(q);
+        t.hold_star(q);
         here = here.moved(next);
     }
 }

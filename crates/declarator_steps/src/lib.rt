@@ -134,32 +134,30 @@ impl Steps {
     }
 
     // One more step, which a base type takes before the others.
-    pub fn push(mut self, x: Step) -> Steps
-        requires { Room self }
-        ensures { pending result ≡ with_step (pending self) (step_of x) }
+    pub fn push(&mut self, x: Step)
+        requires { Room self.old }
+        ensures { pending self.new ≡ with_step (pending self.old) (step_of x) }
     {
         let n = self.len;
         self.kinds[n] = x.kind;
         self.operands[n] = x.operand;
         self.len += 1;
-        self
     }
 
     // One more star that waits.
-    pub fn hold_star(mut self, q: Qualifiers) -> Steps
-        requires { Room self }
-        ensures { pending result ≡ with_star (pending self) (qualifiers q) }
+    pub fn hold_star(&mut self, q: Qualifiers)
+        requires { Room self.old }
+        ensures { pending self.new ≡ with_star (pending self.old) (qualifiers q) }
     {
         let at = Model::MAX_STEPS - 1 - self.held;
         self.operands[at] = u64::from(q.bits());
         self.held += 1;
-        self
     }
 
     // The newest n stars become steps: what they stand before has been read.
-    pub fn release_stars(mut self, n: usize) -> Steps
-        requires { Waiting self n }
-        ensures { pending result ≡ released n (pending self) }
+    pub fn release_stars(&mut self, n: usize)
+        requires { Waiting self.old n }
+        ensures { pending self.new ≡ released n (pending self.old) }
     {
         for _ in 0..n {
             let len = self.len;
@@ -169,6 +167,5 @@ impl Steps {
             self.len += 1;
             self.held -= 1;
         }
-        self
     }
 }

@@ -510,10 +510,9 @@ fn declarator(
     let Ok(_) = r.answer else {
         return r;
     };
-    Declared {
-        steps: r.steps.release_stars(all - used),
-        ..r
-    }
+    let mut steps = r.steps;
+    steps.release_stars(all - used);
+    Declared { steps, ..r }
 }
 
 // A name, a declarator in parentheses, or nothing; then what follows it.
@@ -603,7 +602,7 @@ fn suffixes(
         }
         match suffix(kinds, numbers, w, d, v, here.moved(at + 1), m, kind, room) {
             Ok((e, x)) => {
-                t = t.push(x);
+                t.push(x);
                 here = e;
             }
             Err(x) => return refused(x.reason, x.at, t),

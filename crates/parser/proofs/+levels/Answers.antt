@@ -580,14 +580,14 @@ suffixes-returns-then-is_full t c = full c.loop-m.invariant c.kind_at-kind.ensur
 pub suffixes-suffix-requires : goal.suffixes-suffix-requires
 suffixes-suffix-requires t c = (omega (arith, c.decreases), (held_at c.moved.ensures c.loop-m.invariant.held, c.requires.readable))
 
-pub suffixes-push-t-requires : goal.suffixes-push-t-requires
-suffixes-push-t-requires t c = has_room _ c.is_full.ensures c.if-is_full.false
+pub suffixes-push-requires : goal.suffixes-push-requires
+suffixes-push-requires t c = has_room _ c.is_full.ensures c.if-is_full.false
 
 pub suffixes-loop-m-smaller : goal.suffixes-loop-m-smaller
 suffixes-loop-m-smaller t c = suffixes-fewer c.loop-m.invariant c.kind_at-kind.ensures (elim c.else-kind-ne-OPEN_BRACKET.branch [ suffixes-else-kind-ne-OPEN_BRACKET-via-then-kind-ne-OPEN_BRACKET+else-kind-ne-OPEN_PAREN w ↦ inr w.if-kind-ne-OPEN_PAREN.false | suffixes-else-kind-ne-OPEN_BRACKET-via-else-kind-ne-OPEN_BRACKET w ↦ inl w.if-kind-ne-OPEN_BRACKET.false ]) c.is_full.ensures c.if-is_full.false c.moved.ensures _ c.in-Ok.ensures
 
 pub suffixes-loop-m-preserved : goal.suffixes-loop-m-preserved
-suffixes-loop-m-preserved t c = again c.loop-m.invariant c.kind_at-kind.ensures (elim c.else-kind-ne-OPEN_BRACKET.branch [ suffixes-else-kind-ne-OPEN_BRACKET-via-then-kind-ne-OPEN_BRACKET+else-kind-ne-OPEN_PAREN w ↦ inr w.if-kind-ne-OPEN_PAREN.false | suffixes-else-kind-ne-OPEN_BRACKET-via-else-kind-ne-OPEN_BRACKET w ↦ inl w.if-kind-ne-OPEN_BRACKET.false ]) c.is_full.ensures c.if-is_full.false c.moved.ensures _ c.in-Ok.ensures c.push-t.ensures
+suffixes-loop-m-preserved t c = again c.loop-m.invariant c.kind_at-kind.ensures (elim c.else-kind-ne-OPEN_BRACKET.branch [ suffixes-else-kind-ne-OPEN_BRACKET-via-then-kind-ne-OPEN_BRACKET+else-kind-ne-OPEN_PAREN w ↦ inr w.if-kind-ne-OPEN_PAREN.false | suffixes-else-kind-ne-OPEN_BRACKET-via-else-kind-ne-OPEN_BRACKET w ↦ inl w.if-kind-ne-OPEN_BRACKET.false ]) c.is_full.ensures c.if-is_full.false c.moved.ensures _ c.in-Ok.ensures c.push.ensures
 
 pub suffixes-returns-in-Err : goal.suffixes-returns-in-Err
 suffixes-returns-in-Err t c = suffix-stop c.loop-m.invariant c.kind_at-kind.ensures (elim c.else-kind-ne-OPEN_BRACKET.branch [ suffixes-else-kind-ne-OPEN_BRACKET-via-then-kind-ne-OPEN_BRACKET+else-kind-ne-OPEN_PAREN w ↦ inr w.if-kind-ne-OPEN_PAREN.false | suffixes-else-kind-ne-OPEN_BRACKET-via-else-kind-ne-OPEN_BRACKET w ↦ inl w.if-kind-ne-OPEN_BRACKET.false ]) c.is_full.ensures c.if-is_full.false c.moved.ensures _ c.in-Err.ensures (ap (λ x. x.answer) c.refused-in-Err.ensures)

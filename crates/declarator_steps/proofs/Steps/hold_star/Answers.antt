@@ -8,5 +8,5 @@ use Rattle.declarator_steps.proofs.Steps.hold_star.Goals as goal
 
 pub returns : goal.returns
 returns c = rw (c.from.ensures, c.bits.ensures) (pending-is
-    (steps_stay_held c.args.self.kinds c.args.self.operands _ 0 _ c.args.self.len (omega arith))
-    (rw (bits-qualifiers (qualifiers c.args.q)) at (star-stored c.args.self.kinds c.args.self.operands _ 0 (qualifier_bits (qualifiers c.args.q)) c.args.self.held refl (omega arith) c.well_formed.0.1.1.1.0.1.0.1)))
+    (steps_stay_held c.args.self.now.kinds c.args.self.now.operands _ 0 _ c.args.self.now.len (omega arith))
+    (rw (bits-qualifiers (qualifiers c.args.q)) at (star-stored c.args.self.now.kinds c.args.self.now.operands _ 0 (qualifier_bits (qualifiers c.args.q)) c.args.self.now.held refl (omega arith) (omega arith))))
