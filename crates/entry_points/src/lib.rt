@@ -388,6 +388,38 @@ fn read(
     r.map_err(|e| reject(text, e))
 }
 
+// What is read of a text by an entry.
+pub fn outcome(
+    entry: Entry,
+    text: &[u8],
+    model: u32,
+    w: &mut [u32],
+    d: &mut [u64],
+    v: &mut [i64],
+) -> Outcome
+    ensures v_after { out (told result) (lent w.new d.new v.new) ≡ answered (lent w.old d.old v.old) model (entry_of entry) text.now }
+    ensures walkable { Walkable model (long_enough (lent w.old d.old v.old)) (entry_of entry) text.now }
+{
+    clear(w, d, v);
+    read(entry, text, model, w, d, v)
+}
+
+// The same in slices that are zero throughout: a caller that keeps them so between calls need not pay for clearing 422 KB.
+pub fn outcome_in_zeros(
+    entry: Entry,
+    text: &[u8],
+    model: u32,
+    w: &mut [u32],
+    d: &mut [u64],
+    v: &mut [i64],
+) -> Outcome
+    requires { Cleared w.old d.old v.old }
+    ensures v_after { out (told result) (lent w.new d.new v.new) ≡ answered (lent w.old d.old v.old) model (entry_of entry) text.now }
+    ensures walkable { Walkable model (long_enough (lent w.old d.old v.old)) (entry_of entry) text.now }
+{
+    read(entry, text, model, w, d, v)
+}
+
 // A whole header.
 pub fn translation_unit(
     text: &[u8],
@@ -399,8 +431,7 @@ pub fn translation_unit(
     ensures v_after { out (told result) (lent w.new d.new v.new) ≡ answered (lent w.old d.old v.old) model wholeHeader text.now }
     ensures walkable { Walkable model (long_enough (lent w.old d.old v.old)) wholeHeader text.now }
 {
-    clear(w, d, v);
-    read(Entry::WholeHeader, text, model, w, d, v)
+    outcome(Entry::WholeHeader, text, model, w, d, v)
 }
 
 // One declaration.
@@ -408,36 +439,5 @@ pub fn declaration(text: &[u8], model: u32, w: &mut [u32], d: &mut [u64], v: &mu
     ensures v_after { out (told result) (lent w.new d.new v.new) ≡ answered (lent w.old d.old v.old) model singleDeclaration text.now }
     ensures walkable { Walkable model (long_enough (lent w.old d.old v.old)) singleDeclaration text.now }
 {
-    clear(w, d, v);
-    read(Entry::SingleDeclaration, text, model, w, d, v)
-}
-
-// A whole header, in slices that are zero throughout: who keeps them so between calls need not pay for clearing 422 KB.
-pub fn translation_unit_in_zeros(
-    text: &[u8],
-    model: u32,
-    w: &mut [u32],
-    d: &mut [u64],
-    v: &mut [i64],
-) -> Outcome
-    requires { Cleared w.old d.old v.old }
-    ensures v_after { out (told result) (lent w.new d.new v.new) ≡ answered (lent w.old d.old v.old) model wholeHeader text.now }
-    ensures walkable { Walkable model (long_enough (lent w.old d.old v.old)) wholeHeader text.now }
-{
-    read(Entry::WholeHeader, text, model, w, d, v)
-}
-
-// One declaration, in the same.
-pub fn declaration_in_zeros(
-    text: &[u8],
-    model: u32,
-    w: &mut [u32],
-    d: &mut [u64],
-    v: &mut [i64],
-) -> Outcome
-    requires { Cleared w.old d.old v.old }
-    ensures v_after { out (told result) (lent w.new d.new v.new) ≡ answered (lent w.old d.old v.old) model singleDeclaration text.now }
-    ensures walkable { Walkable model (long_enough (lent w.old d.old v.old)) singleDeclaration text.now }
-{
-    read(Entry::SingleDeclaration, text, model, w, d, v)
+    outcome(Entry::SingleDeclaration, text, model, w, d, v)
 }

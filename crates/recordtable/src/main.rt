@@ -2,8 +2,9 @@
 #![tactic(auto)]
 
 use encoding::regions::{SIGNEDS, WIDES, WORDS};
+use entry_points::Entry;
 use model::Model;
-use reports::{LISTING, listing_buffer, report_unit};
+use reports::{LISTING, listing_buffer, report};
 use std::io;
 use std::io::Write;
 use streams::read_full;
@@ -18,7 +19,8 @@ fn main(rt: HostRuntime) -> io::Result<()> {
     let mut signeds = [0i64; SIGNEDS];
     let mut out = listing_buffer();
     let n = read_full(&mut rt.stdin(), &mut text)?;
-    let size = report_unit(
+    let size = report(
+        Entry::WholeHeader,
         &text[..n],
         Model::LP64,
         &mut words,

@@ -9,10 +9,8 @@ ghost use Rattle.clearing.specs.Slices.{lent};
 ghost use Rattle.entry_points.specs.Answers.{told};
 ghost use Rattle.recordtable_c.specs.Told.{outcome_in, number_of, numbers_of, number_told, numbers_told, over};
 
-use entry_points::{
-    Outcome, declaration, declaration_in_zeros, translation_unit, translation_unit_in_zeros,
-};
-use reports::{report_declaration, report_unit};
+use entry_points::{Entry, Outcome, declaration, outcome_in_zeros, translation_unit};
+use reports::report;
 
 // What is returned for a text that is accepted. Refusals count from 1.
 const ACCEPTED: u32 = 0;
@@ -101,7 +99,7 @@ pub extern "C" fn recordtable_unit_in_zeros(
     ensures answer_after { answer.new ≡ over (numbers_of (outcome_in (lent words.old wides.old signeds.old) model wholeHeader text.now)) answer.old }
     ensures signeds_after { lent words.new wides.new signeds.new ≡ left_in (lent words.old wides.old signeds.old) (outcome_in (lent words.old wides.old signeds.old) model wholeHeader text.now) }
 {
-    let outcome = translation_unit_in_zeros(text, model, words, wides, signeds);
+    let outcome = outcome_in_zeros(Entry::WholeHeader, text, model, words, wides, signeds);
     tell(outcome, answer)
 }
 
@@ -120,7 +118,7 @@ pub extern "C" fn recordtable_declaration_in_zeros(
     ensures answer_after { answer.new ≡ over (numbers_of (outcome_in (lent words.old wides.old signeds.old) model singleDeclaration text.now)) answer.old }
     ensures signeds_after { lent words.new wides.new signeds.new ≡ left_in (lent words.old wides.old signeds.old) (outcome_in (lent words.old wides.old signeds.old) model singleDeclaration text.now) }
 {
-    let outcome = declaration_in_zeros(text, model, words, wides, signeds);
+    let outcome = outcome_in_zeros(Entry::SingleDeclaration, text, model, words, wides, signeds);
     tell(outcome, answer)
 }
 
@@ -137,7 +135,7 @@ pub extern "C" fn recordtable_unit_report(
     ensures wrote { Wrote (printed_outcome model text.now (outcome_in (lent words.old wides.old signeds.old) model wholeHeader text.now)) out.old 0 out.new result }
     ensures signeds_after { lent words.new wides.new signeds.new ≡ left_in (lent words.old wides.old signeds.old) (outcome_in (lent words.old wides.old signeds.old) model wholeHeader text.now) }
 {
-    report_unit(text, model, words, wides, signeds, out)
+    report(Entry::WholeHeader, text, model, words, wides, signeds, out)
 }
 
 // The same of one declaration.
@@ -153,5 +151,5 @@ pub extern "C" fn recordtable_declaration_report(
     ensures wrote { Wrote (printed_outcome model text.now (outcome_in (lent words.old wides.old signeds.old) model singleDeclaration text.now)) out.old 0 out.new result }
     ensures signeds_after { lent words.new wides.new signeds.new ≡ left_in (lent words.old wides.old signeds.old) (outcome_in (lent words.old wides.old signeds.old) model singleDeclaration text.now) }
 {
-    report_declaration(text, model, words, wides, signeds, out)
+    report(Entry::SingleDeclaration, text, model, words, wides, signeds, out)
 }

@@ -3,10 +3,11 @@
 
 ghost use Rattle.std.specs.Prelude.{◌≤◌, length, IfOk};
 
+use entry_points::Entry;
 use encoding::regions::{SIGNEDS, WIDES, WORDS};
 use model::Model;
 use printing::Writer;
-use reports::{listing_buffer, report_declaration, report_unit};
+use reports::{listing_buffer, report};
 use std::io;
 use std::io::{Read, Write};
 use streams::read_full;
@@ -139,19 +140,20 @@ fn answer_next<R: Read, W: Write, E: Write>(
     out: &mut [u8],
 ) -> io::Result<bool> {
     let model = read_number(input)? as u32;
-    let entry = read_byte(input)?;
-    if entry == NO_BYTE {
+    let letter = read_byte(input)?;
+    if letter == NO_BYTE {
         return Ok(false);
     }
+    let entry = if letter == UNIT {
+        Entry::WholeHeader
+    } else {
+        Entry::SingleDeclaration
+    };
     pass(input, ENTRY_REST)?;
     let length = read_number(input)?;
     let n = read_text(input, text, length)?;
     pass(input, 1)?;
-    let size = if entry == UNIT {
-        report_unit(&text[..n], model, words, wides, signeds, out)
-    } else {
-        report_declaration(&text[..n], model, words, wides, signeds, out)
-    };
+    let size = report(entry, &text[..n], model, words, wides, signeds, out);
     write_answer(output, errors, out, size)
 }
 

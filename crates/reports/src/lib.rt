@@ -3,17 +3,17 @@
 // What is past the end of the buffer is counted and not written.
 ghost use Rattle.std.specs.Prelude.{◌≡◌, replicate};
 ghost use Rattle.definition.specs.Model.{model_of};
-ghost use Rattle.definition.specs.Entry.{outcome, wholeHeader, singleDeclaration};
+ghost use Rattle.definition.specs.Entry.{outcome};
 ghost use Rattle.definition.specs.Lent.{long_enough, left_in};
 ghost use Rattle.definition.specs.Listing.{or_lp64, printed_outcome};
 ghost use Rattle.clearing.specs.Slices.{lent};
 ghost use Rattle.printing.specs.Written.{Wrote};
 ghost use Rattle.model.specs.Meaning.{model};
-ghost use Rattle.entry_points.specs.Answers.{told};
+ghost use Rattle.entry_points.specs.Answers.{entry_of, told};
 ghost use Rattle.reports.specs.Printed.{buffer_length, cursor_of, Table, Lists, Answered, Prints};
 
 use encoding::regions::{SIGNEDS, WIDES, WORDS};
-use entry_points::{Counts, Outcome, declaration, translation_unit};
+use entry_points::{Counts, Entry, Outcome, outcome};
 use listing::put_listing;
 use model::Model;
 use printing::{Writer, put_refused};
@@ -91,8 +91,9 @@ fn put_outcome(
     }
 }
 
-// What is printed of a whole header. The lent slices are left as the call of the entry leaves them.
-pub fn report_unit(
+// What is printed of a text by an entry. The lent slices are left as the call of the entry leaves them.
+pub fn report(
+    entry: Entry,
     text: &[u8],
     model: u32,
     words: &mut [u32],
@@ -100,29 +101,11 @@ pub fn report_unit(
     signeds: &mut [i64],
     out: &mut [u8],
 ) -> usize
-    ensures wrote { Wrote (printed_outcome model text.now (outcome model (long_enough (lent words.old wides.old signeds.old)) wholeHeader text.now)) out.old 0 out.new result }
-    ensures signeds_after { lent words.new wides.new signeds.new ≡ left_in (lent words.old wides.old signeds.old) (outcome model (long_enough (lent words.old wides.old signeds.old)) wholeHeader text.now) }
+    ensures wrote { Wrote (printed_outcome model text.now (outcome model (long_enough (lent words.old wides.old signeds.old)) (entry_of entry) text.now)) out.old 0 out.new result }
+    ensures signeds_after { lent words.new wides.new signeds.new ≡ left_in (lent words.old wides.old signeds.old) (outcome model (long_enough (lent words.old wides.old signeds.old)) (entry_of entry) text.now) }
 {
-    let outcome = translation_unit(text, model, words, wides, signeds);
+    let read = outcome(entry, text, model, words, wides, signeds);
     let mut writer = Writer { buffer: out, at: 0 };
-    put_outcome(&mut writer, text, model, words, wides, signeds, outcome);
-    writer.at
-}
-
-// The same of one declaration.
-pub fn report_declaration(
-    text: &[u8],
-    model: u32,
-    words: &mut [u32],
-    wides: &mut [u64],
-    signeds: &mut [i64],
-    out: &mut [u8],
-) -> usize
-    ensures wrote { Wrote (printed_outcome model text.now (outcome model (long_enough (lent words.old wides.old signeds.old)) singleDeclaration text.now)) out.old 0 out.new result }
-    ensures signeds_after { lent words.new wides.new signeds.new ≡ left_in (lent words.old wides.old signeds.old) (outcome model (long_enough (lent words.old wides.old signeds.old)) singleDeclaration text.now) }
-{
-    let outcome = declaration(text, model, words, wides, signeds);
-    let mut writer = Writer { buffer: out, at: 0 };
-    put_outcome(&mut writer, text, model, words, wides, signeds, outcome);
+    put_outcome(&mut writer, text, model, words, wides, signeds, read);
     writer.at
 }
