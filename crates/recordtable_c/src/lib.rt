@@ -151,5 +151,13 @@ pub extern "C" fn recordtable_declaration_report(
     ensures wrote { Wrote (printed_outcome model text.now (outcome_in (lent words.old wides.old signeds.old) model singleDeclaration text.now)) out.old 0 out.new result }
     ensures signeds_after { lent words.new wides.new signeds.new ≡ left_in (lent words.old wides.old signeds.old) (outcome_in (lent words.old wides.old signeds.old) model singleDeclaration text.now) }
 {
-    report(Entry::SingleDeclaration, text, model, words, wides, signeds, out)
+    report(
+        Entry::SingleDeclaration,
+        text,
+        model,
+        words,
+        wides,
+        signeds,
+        out,
+    )
 }

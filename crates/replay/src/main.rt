@@ -3,8 +3,8 @@
 
 ghost use Rattle.std.specs.Prelude.{◌≤◌, length, IfOk};
 
-use entry_points::Entry;
 use encoding::regions::{SIGNEDS, WIDES, WORDS};
+use entry_points::Entry;
 use model::Model;
 use printing::Writer;
 use reports::{listing_buffer, report};
