@@ -354,23 +354,26 @@ fn long_enough(words: usize, wides: usize, signeds: usize) -> bool
     WORDS <= words && WIDES <= wides && SIGNEDS <= signeds
 }
 
-// In slices that are zero throughout, of any length: the table stands in their front. An unknown number of a model and slices that are too short are refused first.
-fn read(
+// What is read of a text by an entry, in slices that are zero throughout, of any length: the table stands in their front. A caller that keeps them so between calls need not pay for
+// clearing 422 KB. An unknown number of a model and slices that are too short are refused first.
+pub fn outcome_in_zeros(
     entry: Entry,
     text: &[u8],
-    number: u32,
+    model: u32,
     w: &mut [u32],
     d: &mut [u64],
     v: &mut [i64],
 ) -> Outcome
     requires { Cleared w.old d.old v.old }
-    ensures { Answers number (entry_of entry) text.now w.old d.old v.old (told result) w.new d.new v.new }
+    ensures answers { Answers model (entry_of entry) text.now w.old d.old v.old (told result) w.new d.new v.new }
+    ensures v_after { out (told result) (lent w.new d.new v.new) ≡ answered (lent w.old d.old v.old) model (entry_of entry) text.now }
+    ensures walkable { Walkable model (long_enough (lent w.old d.old v.old)) (entry_of entry) text.now }
 {
     let bad_call = Refusal {
         reason: Reason::BadCall,
         at: 0,
     };
-    let Some(m) = Model::numbered(number) else {
+    let Some(m) = Model::numbered(model) else {
         return Err(reject(text, bad_call));
     };
     if !long_enough(w.len(), d.len(), v.len()) {
@@ -388,7 +391,7 @@ fn read(
     r.map_err(|e| reject(text, e))
 }
 
-// What is read of a text by an entry.
+// The same in slices that hold anything.
 pub fn outcome(
     entry: Entry,
     text: &[u8],
@@ -401,23 +404,7 @@ pub fn outcome(
     ensures walkable { Walkable model (long_enough (lent w.old d.old v.old)) (entry_of entry) text.now }
 {
     clear(w, d, v);
-    read(entry, text, model, w, d, v)
-}
-
-// The same in slices that are zero throughout: a caller that keeps them so between calls need not pay for clearing 422 KB.
-pub fn outcome_in_zeros(
-    entry: Entry,
-    text: &[u8],
-    model: u32,
-    w: &mut [u32],
-    d: &mut [u64],
-    v: &mut [i64],
-) -> Outcome
-    requires { Cleared w.old d.old v.old }
-    ensures v_after { out (told result) (lent w.new d.new v.new) ≡ answered (lent w.old d.old v.old) model (entry_of entry) text.now }
-    ensures walkable { Walkable model (long_enough (lent w.old d.old v.old)) (entry_of entry) text.now }
-{
-    read(entry, text, model, w, d, v)
+    outcome_in_zeros(entry, text, model, w, d, v)
 }
 
 // A whole header.
