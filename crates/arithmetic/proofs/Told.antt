@@ -6,21 +6,22 @@ use mathlib.Core.Bool.{Bool, true, false}
 use mathlib.Core.Option.{none, some}
 use Rattle.std.specs.Prelude.{Option, Some, None, SomeIff, Result, Ok, Err, OkIff, MatchResult, IsErrAnd}
 use Rattle.std.specs.Option.{ok_or}
-use Prim.Native.Nat.{ℕ, ◌≤◌, ◌<◌, ◌^◌, ◌*◌, ◌%◌}
+use Prim.Native.Nat.{ℕ, ◌≤◌, ◌<◌, ◌^◌, ◌*◌, ◌%◌, ◌-◌, min}
 use borrow.Author.Tests.{lt-ltb, le-ltb}
 use native.Mathlib.Nat.{one-mul, mod-eq_of_lt}
 use lib.Pow.{pow-lt}
 use lib.IntN.{ℤ, pos, negsuc}
-use lib.Signed.{mag, quot_z, rem_z}
-use lib.Bits.{bit_and, and_mask, mask_lt}
+use lib.Signed.{mag, quot_z, rem_z, shr_z, mag_shr}
+use lib.Bits.{bit_and, bit_or, bit_xor, and_mask, mask_lt}
 use mir.Syntax.{Width, w64}
-use mir.Val.{SFits, bits, hbits, to_z, of_z}
+use mir.Val.{SFits, bits, hbits, to_z, of_z, bool_byte}
 use mir.Facts.{to_z-of_z}
-use Rattle.definition.specs.Arithmetic.{is_zero, over, rest, truth, modulo, count_modulus}
+use Rattle.definition.specs.Arithmetic.{is_zero, over, rest, truth, modulo, count_modulus, count, and_z, or_z, xor_z, complement}
 use Rattle.definition.specs.Range.{in_range, ranged, exact}
 use Rattle.arithmetic.proofs.Half.{Past, double}
 use Rattle.std.proofs.lemmas.Int.{to_z-of_z as machine}
-use Rattle.arithmetic.proofs.Bitwise.{low_bits, narrow, plain, same_bits, zero_bits}
+use Rattle.arithmetic.proofs.Bitwise.{low_bits, narrow, plain, same_bits, zero_bits, and_bits, and_in, or_bits, or_in, xor_bits, xor_in, not_bits, not_in}
+use Rattle.arithmetic.proofs.Signs.{shift_capped}
 use Rattle.arithmetic.specs.Outcome.{answer}
 use Rattle.arithmetic.specs.declared.ArithmeticError.{ArithmeticError}
 use Rattle.arithmetic.specs.declared.ArithmeticError.TheVariants.{OutOfRange, DivisionByZero}
@@ -38,9 +39,6 @@ nay (negsuc n) p = le-ltb n (2 ^ 63) p
 pub value : (z : ℤ) → mag z < 2 ^ 63 → answer (Ok z) ≡ exact (some z)
 unfolding answer exact ranged
 value z p = fun_ext (λ at. rw (yes z p, ranged))
-
-pub held : (z : ℤ) → SFits w64 z → answer (Ok z) ≡ exact (some z)
-held z f = value z f.sfits
 
 -- a value that the machine made from its bits
 pub back : {z : ℤ} → SFits w64 z → to_z w64 (of_z w64 z) ≡ z
@@ -91,16 +89,6 @@ module _ (a b : ℤ) where
   unfolding rest
   rest_some e = rw (e, rest)
 
--- ---- truth values
-
-truth-below : {limit : ℕ} → 1 < limit → (t : Bool) → mag (truth t) < limit
-unfolding truth
-truth-below p true = p
-truth-below p false = omega arith
-
-pub truth-fits : (t : Bool) → SFits w64 (truth t)
-truth-fits t = sfits_of (truth-below (omega arith) t)
-
 -- ---- the count of a shift
 
 pub low_count : {b : ℤ} → SFits w64 b → bit_and (of_z w64 b) 4294967295 ≡ modulo b count_modulus
@@ -115,6 +103,33 @@ power w n p =
     let q : 2 ^ n < 2 ^ hbits w = pow-lt p in
     rw (one-mul (2 ^ n), mod-eq_of_lt {n = 2 ^ n} {m = 2 ^ bits w} (omega (arith, double w))) (plain w (2 ^ n) q)
 
--- ---- what a test on the machine says
+-- ---- the operators that always have a value, on the machine's bits
 
-pub ruleset tests = (machine, same_bits, zero_bits, held)
+-- a test, as a number
+pub byte_truth : (t : Bool) → pos (bool_byte t) ≡ truth t
+unfolding truth
+byte_truth true = refl
+byte_truth false = refl
+
+-- what a conversion gave, which fits
+pub whole : (z : ℤ) → mag z < 2 ^ 63 → answer (Ok (to_z w64 (of_z w64 z))) ≡ exact (some z)
+whole z p = made (sfits_of p)
+
+module _ {a b : ℤ} (f : SFits w64 a) (g : SFits w64 b) where
+  pub anded : answer (Ok (to_z w64 (bit_and (of_z w64 a) (of_z w64 b)))) ≡ exact (some (and_z a b))
+  anded = rw (and_bits w64 a b (narrow w64 a f.sfits) (narrow w64 b g.sfits)) (made (sfits_of (and_in 63 a b f.sfits g.sfits)))
+
+  pub ored : answer (Ok (to_z w64 (bit_or (of_z w64 a) (of_z w64 b)))) ≡ exact (some (or_z a b))
+  ored = rw (or_bits w64 a b (narrow w64 a f.sfits) (narrow w64 b g.sfits)) (made (sfits_of (or_in 63 a b f.sfits g.sfits)))
+
+  pub xored : answer (Ok (to_z w64 (bit_xor (of_z w64 a) (of_z w64 b)))) ≡ exact (some (xor_z a b))
+  xored = rw (xor_bits w64 a b (narrow w64 a f.sfits) (narrow w64 b g.sfits)) (made (sfits_of (xor_in 63 a b f.sfits g.sfits)))
+
+  -- a shift goes by the last place where it would go farther
+  pub moved : {k n : ℕ} → k ≡ count (to_z w64 (of_z w64 b)) → n ≡ min k 63 → answer (Ok (to_z w64 (of_z w64 (shr_z (to_z w64 (of_z w64 a)) (2 ^ n))))) ≡ exact (some (shr_z a (2 ^ count b)))
+  moved p q = rw (q, p, back f, back g, shift_capped 63 a (count b) f.sfits) (made (sfits_of (omega (arith, f.sfits, mag_shr a (2 ^ count b)))))
+
+pub turned : {a : ℤ} → SFits w64 a → answer (Ok (to_z w64 (2 ^ 64 - 1 - of_z w64 a))) ≡ exact (some (complement a))
+turned {a} f = rw (not_bits w64 a (narrow w64 a f.sfits)) (made (sfits_of (not_in 63 a f.sfits)))
+
+pub ruleset tests = (machine, same_bits, zero_bits, byte_truth, whole, ored, anded, xored, moved, turned)

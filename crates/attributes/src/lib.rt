@@ -6,7 +6,6 @@ ghost use Rattle.definition.specs.Attribute.{in_parens, changes_layout, parenthe
 ghost use Rattle.encoding.specs.Refusals.{answer_by};
 ghost use Rattle.attributes.specs.Shown.{attribute};
 
-use encoding::ascii::{CLOSE_PAREN, OPEN_PAREN};
 use encoding::refusals::{Reason, Refusal};
 use scan::{blanks_end, byte_at, from};
 
@@ -26,10 +25,10 @@ pub fn parens_end(text: &[u8], at: usize) -> usize
     let rest = from(text, at);
     let mut deep: usize = 0;
     for (i, b) in rest.iter().enumerate() {
-        match u32::from(*b) {
-            OPEN_PAREN => deep += 1,
-            CLOSE_PAREN if deep == 0 => return at + i,
-            CLOSE_PAREN => deep -= 1,
+        match b {
+            b'(' => deep += 1,
+            b')' if deep == 0 => return at + i,
+            b')' => deep -= 1,
             _ => {}
         }
     }
@@ -76,12 +75,13 @@ pub fn parenthesized(text: &[u8], word: usize, at: usize) -> Result<(bool, usize
 }
 
 // The same of the attribute whose word begins at `word` and ends at an offset.
+#[tactic(auto, using(crate::proofs::Parens::no_parens, crate::proofs::Parens::parens))]
 pub fn attribute_at(text: &[u8], word: usize, at: usize) -> Result<(bool, usize), Refusal>
     ensures { answer_by attribute result ≡ attribute_at text.now word at }
 {
     let open = blanks_end(text, at);
-    if byte_at(text, open) != OPEN_PAREN {
-        return Ok((false, at));
+    match byte_at(text, open) {
+        Some(b'(') => parenthesized(text, word, open),
+        _ => Ok((false, at)),
     }
-    parenthesized(text, word, open)
 }

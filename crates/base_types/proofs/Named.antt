@@ -9,12 +9,17 @@ use Rattle.definition.specs.Row.{Row}
 use Rattle.definition.specs.Table.{Table, State}
 use Rattle.definition.specs.Types.{add}
 use Rattle.table.specs.Held.{state, Encodes}
-use Rattle.table.specs.Reply.{Reply, both, Shows, numbers}
+use Rattle.table.specs.Reply.{Reply, bad, reply, both, Shows, numbers}
 use Rattle.table.specs.declared.Cursor.{Cursor}
 use Rattle.table.specs.declared.Numbers.{Numbers}
 use Rattle.table.proofs.Branch.{some!, none! }
 use Rattle.words.specs.declared.types.BaseRow.{BaseRow}
-use Rattle.std.specs.Prelude.{Some, None}
+use Rattle.std.specs.Prelude.{Option as CodeOption, Some, None, Result, Err}
+use Rattle.std.specs.Option.{ok_or}
+use Rattle.std.specs.Result.{IsErrAnd}
+use Rattle.std.proofs.lemmas.Result.{err_from_is_err_and}
+use Rattle.encoding.specs.Refusals.{number_of}
+use Rattle.encoding.specs.declared.refusals.Refusal.{Refusal}
 use Rattle.words.specs.Meaning.{numbers as base_numbers, known}
 use Rattle.words.specs.Plain.{Plain, AllPlain}
 use Rattle.words.proofs.Uses.{a-row, no_row}
@@ -37,3 +42,11 @@ module _ (o : Option Row) {c : Cursor} {t : Table} {w d w' d' : List ℕ} {v v' 
 pub none-added : (o : Option Row) {w d : List ℕ} {v : List ℤ} {r : Reply ℕ} (s : State) (y : Answer (ℕ × State)) → None ≡ known o → Shows both y r w d v
     → Shows both (elim o as (λ z. Answer (ℕ × State)) [ some x ↦ add x s | none ↦ y ]) r w d v
 none-added o s y e h = none! o (λ x. add x s) y (no_row o e) h
+
+-- the refusal where there is nothing to add
+pub refused-as : {A X : Type 0} (o : CodeOption A) (r : Result (Cursor × X) Refusal) (x : Refusal) {e : Refusal} → Err e ≡ ok_or o x → o ≡ None → IsErrAnd r (λ y. y ≡ e) → reply r ≡ bad (number_of x.reason) x.at
+refused-as {A} o r x {e} v n q =
+    let p = err_from_is_err_and r q in
+    let w : ◌≡◌ {A = Result A Refusal} (Err e) (Err x) = rw n at v in
+    let z : e ≡ x = cc in
+    rw (p.1, p.2, z)

@@ -5,14 +5,14 @@ ghost use Rattle.table.specs.Held.{Held};
 ghost use Rattle.table.specs.Reply.{reply, Does};
 ghost use Rattle.model.specs.Meaning.{model};
 ghost use Rattle.words.specs.Meaning.{specifiers};
-ghost use Rattle.naming.specs.Names.{NamesFit};
-ghost use Rattle.base_types.specs.Basing.{tokens, AddsPlain};
+ghost use Rattle.naming.specs.Meaning.{tokens};
+ghost use Rattle.base_types.specs.Basing.{AddsPlain};
 
 use encoding::refusals::{Reason, Refusal};
 use model::Model;
 use named_rows::typedef_row;
-use naming::name_at;
-use table::{Answer, Cursor, Numbers, kind_at};
+use naming::Tokens;
+use table::{Answer, Cursor, Numbers};
 use type_rows::{add_row, qualify};
 use words::classes::is_name;
 use words::specifiers::Specifiers;
@@ -40,34 +40,29 @@ fn add_base(w: &mut [u32], d: &mut [u64], v: &mut [i64], c: Cursor, base: BaseRo
 
 // The row of a type name: a typedef's, or that of a name that every program assumes.
 pub fn named_type(
-    kinds: &[u32],
-    numbers: &[u64],
+    ts: &Tokens<'_>,
     w: &mut [u32],
     d: &mut [u64],
     v: &mut [i64],
     c: Cursor,
     m: Model,
 ) -> Answer<u32>
-    requires { Held c w.old d.old v.old × NamesFit kinds.now numbers.now }
-    ensures { Does (named_type (tokens kinds.now numbers.now) (model m)) c w.old d.old v.old (reply result) w.new d.new v.new }
+    requires { Held c w.old d.old v.old }
+    ensures { Does (named_type (tokens ts.now) (model m)) c w.old d.old v.old (reply result) w.new d.new v.new }
 {
     let at = c.at;
-    let kind = kind_at(kinds, at);
+    let kind = ts.kind(at);
+    let unknown = Refusal {
+        reason: Reason::UnknownType,
+        at,
+    };
     if !is_name(kind) {
-        return Err(Refusal {
-            reason: Reason::UnknownType,
-            at,
-        });
+        return Err(unknown);
     }
-    if let Some(n) = typedef_row(w, c, name_at(numbers, at)) {
+    if let Some(n) = typedef_row(w, c, ts.name(at)) {
         return Ok((c, n));
     }
-    let Some(b) = builtin(m, kind) else {
-        return Err(Refusal {
-            reason: Reason::UnknownType,
-            at,
-        });
-    };
+    let b = builtin(m, kind).ok_or(unknown)?;
     add_base(w, d, v, c, b)
 }
 
@@ -87,12 +82,10 @@ pub fn words_type(
     if let Some(n) = p.base {
         return Ok((c, n));
     }
-    let Some(b) = combine(m, p.words) else {
-        return Err(Refusal {
-            reason: Reason::BadTypeWords,
-            at,
-        });
-    };
+    let b = combine(m, p.words).ok_or(Refusal {
+        reason: Reason::BadTypeWords,
+        at,
+    })?;
     add_base(w, d, v, c, b)
 }
 

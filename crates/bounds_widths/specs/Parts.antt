@@ -1,8 +1,10 @@
 -- What the reader of widths answers.
-use Rattle.std.proofs.Math.Option.{Option, none, some}
-use Rattle.std.specs.Prelude.{ℕ, zero, suc}
+use Rattle.std.specs.Prelude.{ℕ, Option, Result, Ok, Err}
+use Rattle.encoding.specs.declared.refusals.Refusal.{Refusal}
+use Rattle.table.specs.declared.Cursor.{Cursor}
+use Rattle.table.specs.Widths.{Storable}
 
--- a width by its number: 0 for a plain member, else 1 more than the width
-abbrev pub width_in : ℕ → Option ℕ
-width_in zero = none
-width_in (suc w) = some w
+-- a width that was read can be stored
+abbrev pub Fits : Result (Cursor × Option ℕ) Refusal → Type 0
+Fits (Ok p) = Storable p.1
+Fits (Err e) = Unit

@@ -2,20 +2,22 @@
 use mathlib.Core.Path.{◌≡◌, refl, sym, ap, ◌∙◌}
 use Prim.Native.Nat.{ℕ, suc, ◌+◌, ◌-◌, ◌*◌, ◌^◌, ◌≤◌, ◌<◌}
 use native.Mathlib.Omega.{arith}
-use lib.ListN.{length}
+use lib.ListN.{length, get_or}
+use Rattle.std.specs.Prelude.{Option, Some, None}
 use Rattle.definition.specs.Answer.{Answer, got, refused, ◌>>=◌}
 use Rattle.definition.specs.Text.{Bytes, byte_at}
 use Rattle.definition.specs.Character.{Read, one_byte, closed_at, bytes_from, character_at}
 use Rattle.lemmas.proofs.Branch.{eq_yes, eq_no, le_yes, le_no}
-use Rattle.literals.proofs.Capped.{capped-step, range-of, range-past}
-use Rattle.literals.specs.Shown.{capped}
+use Rattle.scan.proofs.Going.{inside}
+use Rattle.literals.proofs.Capped.{digit_more, ranged-some, ranged-none}
+use Rattle.literals.specs.Shown.{ranged, with_digit}
 
 -- the loop over the bytes of a constant: what is left gives the whole
-pub record Going (text : Bytes) (start i v : ℕ) (whole : Answer Read) : Type 0 where
+pub record Going (text : Bytes) (start i : ℕ) (v : Option ℕ) (whole : Answer Read) : Type 0 where
   pub exact : ℕ
   pub rounds : ℕ
   pub enough : length text - i < rounds
-  pub caps : v ≡ capped exact
+  pub caps : v ≡ ranged exact
   pub same : whole ≡ bytes_from rounds text start exact i
 
 round : (text : Bytes) (start i n e : ℕ) → length text - i < n → bytes_from n text start e i ≡ bytes_from (suc (n - 1)) text start e i
@@ -26,45 +28,45 @@ module _ (text : Bytes) (start : ℕ) where
   unfolding character_at
   character_empty e = sym (eq_yes _ _ _ _ e)
 
-  pub going-starts : (byte_at text (start + 1) ≡ 39 → ⊥) → Going text start (start + 1) 0 (character_at text start)
+  pub going-starts : (byte_at text (start + 1) ≡ 39 → ⊥) → Going text start (start + 1) (Some 0) (character_at text start)
   unfolding character_at
   going-starts e = record { exact = 0; rounds = suc (length text); enough = omega arith; caps = refl; same = eq_no _ _ _ _ e }
 
-  module _ (i v : ℕ) {whole : Answer Read} (g : Going text start i v whole) where
+  module _ (i : ℕ) (v : Option ℕ) {whole : Answer Read} (g : Going text start i v whole) where
     pub going-ends : length text ≤ i → refused 6 start ≡ whole
     unfolding bytes_from
     going-ends h = sym (g.same ∙ (round text start i g.rounds g.exact g.enough ∙ le_yes _ _ _ _ h))
 
-    module _ (inside : i < length text) where
-      closes : byte_at text i ≡ 39 → whole ≡ closed_at start g.exact i
+    module _ (more : i < length text) where
+      closes : get_or text i 0 ≡ 39 → whole ≡ closed_at start g.exact i
       unfolding bytes_from
-      closes e = g.same ∙ (round text start i g.rounds g.exact g.enough ∙ (le_no _ _ _ _ inside ∙ eq_yes _ _ _ _ e))
+      closes e = g.same ∙ (round text start i g.rounds g.exact g.enough ∙ (le_no _ _ _ _ more ∙ eq_yes _ _ _ _ (sym (inside text i more) ∙ e)))
 
-      pub going-got : byte_at text i ≡ 39 → v < 2 ^ 63 → got (record { value = v; next = i + 1 }) ≡ whole
+      pub going-got : get_or text i 0 ≡ 39 → (w : ℕ) → v ≡ Some w → got (record { value = w; next = i + 1 }) ≡ whole
       unfolding ◌>>=◌
-      going-got e h = sym (rw (range-of v g.exact start g.caps h) at (closes e))
+      going-got e w h = sym (rw (ranged-some start g.exact w (sym h ∙ g.caps)) at (closes e))
 
-      pub going-past : byte_at text i ≡ 39 → 2 ^ 63 ≤ v → refused 8 start ≡ whole
+      pub going-past : get_or text i 0 ≡ 39 → v ≡ None → refused 8 start ≡ whole
       unfolding ◌>>=◌
-      going-past e h = sym (rw (range-past v g.exact start g.caps h) at (closes e))
+      going-past e h = sym (rw (ranged-none start g.exact (sym h ∙ g.caps)) at (closes e))
 
-      module _ (more : byte_at text i ≡ 39 → ⊥) where
+      module _ (other : get_or text i 0 ≡ 39 → ⊥) where
         goes : whole ≡ (one_byte text start i >>= (λ r. bytes_from (g.rounds - 1) text start (g.exact * 256 + r.value) r.next))
         unfolding bytes_from
-        goes = g.same ∙ (round text start i g.rounds g.exact g.enough ∙ (le_no _ _ _ _ inside ∙ eq_no _ _ _ _ more))
+        goes = g.same ∙ (round text start i g.rounds g.exact g.enough ∙ (le_no _ _ _ _ more ∙ eq_no _ _ _ _ (λ e. other (inside text i more ∙ e))))
 
         pub going-stops : (n p : ℕ) → refused n p ≡ one_byte text start i → refused n p ≡ whole
         unfolding ◌>>=◌
         going-stops n p q = sym (rw (← q) at goes)
 
-        pub going-on : (b next v' : ℕ) → got (record { value = b; next = next }) ≡ one_byte text start i → i < next → b < 256 → v' ≡ capped (v * 256 + b)
+        pub going-on : (b next : ℕ) (v' : Option ℕ) → got (record { value = b; next = next }) ≡ one_byte text start i → i < next → v' ≡ with_digit v 256 b
             → Going text start next v' whole
         unfolding ◌>>=◌
-        going-on b next v' q h l a = record {
+        going-on b next v' q h a = record {
           exact = g.exact * 256 + b;
           rounds = g.rounds - 1;
           enough = (let k = g.enough in omega arith);
-          caps = a ∙ capped-step (2 ^ 63) l _ g.caps;
+          caps = a ∙ (ap (λ (o : Option ℕ). with_digit o 256 b) g.caps ∙ digit_more g.exact 256 b (omega arith));
           same = rw (← q) at goes;
         }
 

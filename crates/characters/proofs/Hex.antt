@@ -1,23 +1,30 @@
 -- Laws of \x. Assumes nothing.
 use mathlib.Core.Path.{◌≡◌, refl, sym, ap, ◌∙◌}
-use mathlib.Core.Bool.{not}
+use mathlib.Core.Bool.{Bool, true, false, not}
 use mathlib.Core.List.{[], ◌∷◌}
 use mathlib.Mathlib.Data.Bool.Basic.{and_intro}
-use Prim.Native.Nat.{ℕ, zero, suc, ◌+◌, ◌*◌, ◌%◌, ◌^◌, ◌≤◌, ◌<◌}
-use native.Mathlib.Nat.{le-mul_of_pos_right, add-zero}
+use Prim.Native.Nat.{ℕ, zero, suc, ◌+◌, ◌-◌, ◌*◌, ◌%◌, ◌^◌, ◌≤◌, ◌<◌}
+use native.Mathlib.Nat.{le-mul_of_pos_right, add-zero, lt_of_not-le}
+use native.Mathlib.Decide.{dec_le}
 use native.Mathlib.Numerals.{add-one}
 use native.Mathlib.Omega.{arith}
-use borrow.Author.Tests.{le-leb, lt-leb, lt-ltb, le-ltb}
-use lib.ListN.{length, take, drop, get_or, drop_of_length-le}
+use borrow.Author.Tests.{le-leb, lt-leb, lt-ltb, le-ltb, ltb-true, ltb-false}
+use lib.Dec.{ltb}
+use lib.ListN.{length, take, drop, get_or, length-drop}
+use lib.Seq.{take_all, length-take-le}
+use Rattle.std.specs.Prelude.{Option, Some, None, SomeIff}
+use Rattle.std.specs.Bool.{then_some}
 use Rattle.definition.specs.Answer.{got, refused}
 use Rattle.definition.specs.Text.{Bytes}
 use Rattle.definition.specs.Scan.{from, before}
-use Rattle.definition.specs.Number.{digit_value, value_from}
+use Rattle.definition.specs.Number.{digit_value, are_digits, value_from}
 use Rattle.definition.specs.Character.{ends_hex, hex_byte}
 use Rattle.definition_laws.proofs.LexerProgress.{before_le}
-use Rattle.lemmas.proofs.Branch.{yes, nay}
+use Rattle.lemmas.proofs.Branch.{yes as yes-is, nay}
 use Rattle.lemmas.proofs.Truth.{not_first, not_second}
-use Rattle.literals.proofs.Digits.{value-more}
+use Rattle.literals.proofs.Digits.{value-more, digits_bad}
+use Rattle.literals.specs.Shown.{digit}
+use Rattle.scan.proofs.Going.{stopped-at, going-at}
 
 -- values of digits only grow
 value_le : (base : ℕ) (w : Bytes) (m k : ℕ) → 0 < base → m + k ≤ length w → value_from base 0 (take m w) ≤ value_from base 0 (take (m + k) w)
@@ -29,45 +36,29 @@ value_le base w m (suc k) p h =
     let g = le-mul_of_pos_right (value_from base 0 (take (m + k) w)) p in
     rw q (omega arith)
 
--- how many digits stand from a byte on
-hex_goes : (w : Bytes) (i : ℕ) → i < length w → digit_value (get_or w i 0) < 16 → before ends_hex (drop i w) ≡ suc (before ends_hex (drop (suc i) w))
-unfolding before ends_hex
-hex_goes [] i h k = absurd (omega arith)
-hex_goes (x ∷ w) zero h k = nay _ _ _ (ap not (lt-ltb (digit_value x) 16 k))
-hex_goes (x ∷ w) (suc i) h k = hex_goes w i (omega arith) k
+-- a digit among them is one
+pub digit-of : (w : Bytes) (i : ℕ) (r : Option ℕ) → are_digits 16 w ≡ true → i < length w → digit r ≡ digit_value (get_or w i 0) → r ≡ None → ⊥
+digit-of w i r a h e n =
+    let f : 99 ≡ digit_value (get_or w i 0) = rw n at e in
+    let z = sym (digits_bad 16 w i h (omega arith)) ∙ a in cc
 
-hex_stops : (w : Bytes) (i : ℕ) → i < length w → 16 ≤ digit_value (get_or w i 0) → before ends_hex (drop i w) ≡ 0
-unfolding before ends_hex
-hex_stops [] i h k = absurd (omega arith)
-hex_stops (x ∷ w) zero h k = yes _ _ _ (ap not (le-ltb (digit_value x) 16 k))
-hex_stops (x ∷ w) (suc i) h k = hex_stops w i (omega arith) k
+-- all that stand before it are
+pub hex_digits : (w : Bytes) → are_digits 16 (take (before ends_hex w) w) ≡ true
+unfolding before ends_hex are_digits
+hex_digits [] = refl
+hex_digits (b ∷ w) = by (ltb (digit_value b) 16) refl (hex_digits w)
+  where
+    by : (t : Bool) → ltb (digit_value b) 16 ≡ t → are_digits 16 (take (before ends_hex w) w) ≡ true → are_digits 16 (take (before ends_hex (b ∷ w)) (b ∷ w)) ≡ true
+    by true p ih = rw (going-at ends_hex b w (ap not p)) (yes-is _ _ _ p ∙ ih)
+    by false p ih = rw (stopped-at ends_hex b w (ap not p)) refl
 
-hex_ends : (w : Bytes) (i : ℕ) → length w ≤ i → before ends_hex (drop i w) ≡ 0
-unfolding before
-hex_ends w i h = rw (drop_of_length-le w h)
-
--- i digits have been read, of the value v
-pub record HexRead (w : Bytes) (i v : ℕ) : Type 0 where
-  pub left : i + before ends_hex (drop i w) ≡ before ends_hex w
-  pub value : value_from 16 0 (take i w) ≡ v
-
-module _ (w : Bytes) where
-  pub hex-starts : HexRead w 0 0
-  unfolding value_from
-  hex-starts = record { left = omega arith; value = refl }
-
-  module _ (i : ℕ) {v : ℕ} (r : HexRead w i v) where
-    pub hex_next : (d : ℕ) → i < length w → d ≡ digit_value (get_or w i 0) → d < 16 → HexRead w (i + 1) (v * 16 + d)
-    hex_next d h e k = record {
-      left = (let g = hex_goes w i h (rw e at k) in let l = r.left in rw (add-one i) (omega arith));
-      value = value-more 16 0 w i h ∙ rw (r.value, ← e);
-    }
-
-    pub hex_stop : (d : ℕ) → i < length w → d ≡ digit_value (get_or w i 0) → 16 ≤ d → before ends_hex w ≡ i
-    hex_stop d h e k = let g = hex_stops w i h (rw e at k) in let l = r.left in omega arith
-
-    pub hex_end : length w ≤ i → before ends_hex w ≡ i
-    hex_end h = let g = hex_ends w i h in let l = r.left in omega arith
+-- a value that is too large before the end
+pub too_large : (w : Bytes) (i v d : ℕ) → i < length w → value_from 16 0 (take i w) ≡ v → d ≡ digit_value (get_or w i 0) → 2 ^ 127 ≤ v * 16 + d → (0 < length w) × (value_from 16 0 w < 2 ^ 127) → ⊥
+too_large w i v d h r e k l =
+    let g = value_le 16 w (i + 1) (length w - (i + 1)) (omega arith) (omega arith) in
+    let q : i + 1 + (length w - (i + 1)) ≡ length w = omega arith in
+    let y = rw (q, take_all (length w) w (omega arith), value-more 16 0 w i h, r, ← e) at g in
+    omega (arith, l.1)
 
 module _ (text : Bytes) (start at : ℕ) where
   -- the value of all the digits
@@ -78,29 +69,54 @@ module _ (text : Bytes) (start at : ℕ) where
   unfolding hex_byte
   hex_refused e = sym (nay _ _ _ (not_first _ (lt-leb 1 (before ends_hex (from text at)) (omega arith))))
 
-  hex_got : 0 < before ends_hex (from text at) → whole < 2 ^ 127 → got (record { value = whole % 256; next = at + before ends_hex (from text at) }) ≡ hex_byte text start at
+  pub hex_got : 0 < before ends_hex (from text at) → whole < 2 ^ 127 → got (record { value = whole % 256; next = at + before ends_hex (from text at) }) ≡ hex_byte text start at
   unfolding hex_byte
-  hex_got h k = sym (yes _ _ _ (and_intro (le-leb 1 _ h) (lt-ltb _ (2 ^ 127) k)))
+  hex_got h k = sym (yes-is _ _ _ (and_intro (le-leb 1 _ h) (lt-ltb _ (2 ^ 127) k)))
 
   hex_above : 2 ^ 127 ≤ whole → refused 6 start ≡ hex_byte text start at
   unfolding hex_byte
   hex_above h = sym (nay _ _ _ (not_second _ (le-ltb _ (2 ^ 127) h)))
 
-  module _ (w : Bytes) (is : w ≡ from text at) (i v next : ℕ) (r : HexRead w i v) (to : next ≡ at + i) where
-    pub hex_none : before ends_hex w ≡ i → next ≡ at → refused 6 start ≡ hex_byte text start at
-    hex_none e h = hex_refused (rw is at e ∙ omega arith)
+-- a value read to the end
+pub hex_read : (w : Bytes) (i v : ℕ) (r : Option ℕ) → length w ≤ i → value_from 16 0 (take i w) ≡ v → 0 < length w → r ≡ then_some (ltb v (2 ^ 127)) v
+    → SomeIff r ((0 < length w) × (value_from 16 0 w < 2 ^ 127)) (value_from 16 0 w)
+hex_read w i v r l e h q = by (ltb v (2 ^ 127)) refl
+  where
+    f : value_from 16 0 w ≡ v
+    f = rw (take_all i w l) at e
 
-    pub hex_fine : before ends_hex w ≡ i → (next ≡ at → ⊥) → v < 2 ^ 127 → got (record { value = v % 256; next = next }) ≡ hex_byte text start at
-    hex_fine e h k =
-        let f = rw is at e in
-        let g = rw is at r.value in
-        rw (f, g, ← to) at (hex_got (omega arith) (rw (f, g) k))
+    by : (t : Bool) → ltb v (2 ^ 127) ≡ t → SomeIff r ((0 < length w) × (value_from 16 0 w < 2 ^ 127)) (value_from 16 0 w)
+    by true p = let g : r ≡ Some v = q ∙ ap (λ (t : Bool). then_some t v) p in rw (g, f) ((h, ltb-true v (2 ^ 127) p), refl)
+    by false p = let g : r ≡ None = q ∙ ap (λ (t : Bool). then_some t v) p in rw (g, f) (λ z. let k = ltb-false v (2 ^ 127) p in absurd (omega (arith, z.1)))
 
-    pub hex_large : (d : ℕ) → i < length w → d ≡ digit_value (get_or w i 0) → d < 16 → 2 ^ 123 ≤ v → refused 6 start ≡ hex_byte text start at
-    hex_large d h e k l =
-        let m = hex_next w i r d h e k in
-        let b = before_le ends_hex w in
-        let f = m.left in
-        let g = value_le 16 w (i + 1) (before ends_hex (drop (i + 1) w)) (omega arith) (omega arith) in
-        let y = rw (f, m.value, is) at g in
-        hex_above (omega arith)
+-- what the code reads, in the definition
+module _ (text : Bytes) (start at : ℕ) (w : Bytes) (is : w ≡ from text at) (n : ℕ) (to : n ≡ before ends_hex w) where
+  pub hex_inside : at ≤ length text → at + n ≤ length text
+  hex_inside h = let b = before_le ends_hex w in let l = length-drop at text in let k = ap (λ (bs : Bytes). length bs) is in omega arith
+
+  taken : length (take n w) ≡ n
+  taken = length-take-le n w (rw to (before_le ends_hex w))
+
+  whole-is : value_from 16 0 (take n w) ≡ whole text start at
+  whole-is = rw (to, is) refl
+
+  module _ (r : Option ℕ) (s : SomeIff r ((0 < length (take n w)) × (value_from 16 0 (take n w) < 2 ^ 127)) (value_from 16 0 (take n w))) where
+    pub hex_some : (v : ℕ) → r ≡ Some v → got (record { value = v % 256; next = at + n }) ≡ hex_byte text start at
+    hex_some v e =
+        let f = rw e at s in
+        let q : n ≡ before ends_hex (from text at) = rw (← is) to in
+        rw (f.1, whole-is, q) (hex_got text start at (let t = taken in let z = f.0.0 in omega arith) (rw (← whole-is) f.0.1))
+
+    pub hex_none : r ≡ None → refused 6 start ≡ hex_byte text start at
+    hex_none e = by (dec_le n 0)
+      where
+        f : ((0 < length (take n w)) × (value_from 16 0 (take n w) < 2 ^ 127)) → ⊥
+        f = rw e at s
+
+        by : Dec (n ≤ 0) → refused 6 start ≡ hex_byte text start at
+        by (yes q) = hex_refused text start at (let k : n ≡ before ends_hex (from text at) = rw (← is) to in omega arith)
+        by (no q) = above (dec_le (2 ^ 127) (value_from 16 0 (take n w)))
+          where
+            above : Dec (2 ^ 127 ≤ value_from 16 0 (take n w)) → refused 6 start ≡ hex_byte text start at
+            above (yes k) = hex_above text start at (rw (← whole-is) k)
+            above (no k) = absurd (f (rw taken (lt_of_not-le q), lt_of_not-le k))

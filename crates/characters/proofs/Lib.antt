@@ -1,2 +1,3 @@
 pub mod Hex
 pub mod Constant
+pub mod Refused

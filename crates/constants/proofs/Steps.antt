@@ -1,17 +1,14 @@
--- Steps of the readers: what a call gave, a mark that must stand there, one level down. Assumes nothing.
-use mathlib.Core.Path.{◌≡◌, refl, sym, ap, ◌∙◌}
-use mathlib.Core.Bool.{Bool, true, false}
-use mathlib.Core.List.{List}
+-- Steps of the readers: what a call gave, kinds that are not the end's, one level down. Assumes nothing.
+use mathlib.Core.Path.{◌≡◌, refl, sym, ap}
+use mathlib.Core.Bool.{true, false}
 use mathlib.Core.Option as maybe
-use Prim.Native.Nat.{ℕ, suc, ◌+◌, ◌-◌, ◌<◌}
+use Prim.Native.Nat.{ℕ, zero, suc, ◌-◌, ◌<◌}
 use native.Mathlib.Omega.{arith}
-use lib.Dec.{ltb}
-use borrow.Author.Tests.{ltb-true, ltb-false}
 use lib.IntN.{ℤ}
-use lib.ListN.{length, get_or-eq_default}
-use Rattle.definition.specs.Answer.{Answer, got, refused, ◌>>=◌}
-use Rattle.definition.specs.Refusal.{too_deep, missing_mark}
-use Rattle.definition.specs.Token.{Tokens, need}
+use Rattle.definition.specs.Answer.{Answer, got, refused}
+use Rattle.definition.specs.Refusal.{too_deep}
+use Rattle.definition.specs.Kind.{is_name}
+use Rattle.definition.specs.Token.{Tokens}
 use Rattle.definition.specs.Arithmetic.{is_zero, chosen, is_prefix, precedence, operators, operator_in, prefixes, prefix_in}
 use Rattle.definition.specs.Constant.{level, operand₁, chain₁, condition₁}
 use Rattle.definition_laws.proofs.ConstantProgress.{level-past}
@@ -20,11 +17,8 @@ use Rattle.std.specs.Option.{ok_or}
 use Rattle.encoding.specs.Refusals.{number_of, answer_by}
 use Rattle.encoding.specs.declared.refusals.Refusal.{Refusal}
 use Rattle.constants.specs.declared.Place.{Place}
-use Rattle.constants.specs.Reading.{tokens, with_place}
+use Rattle.constants.specs.Reading.{with_place}
 use Rattle.table.specs.Ends.{Ends}
-use Rattle.table.specs.Reply.{Peek}
-use Rattle.table.proofs.Branch.{via, halt}
-use Rattle.lemmas.proofs.Branch.{eq_yes, eq_no}
 
 -- ---- what is answered
 
@@ -49,33 +43,22 @@ lacks (Ok x) e d o p q = absurd p
 lacks (Err y) e d (Some n) p q = cc
 lacks (Err y) e d None p q = cc
 
--- ---- a mark that must stand there
+-- ---- kinds that are not the end's
 
-module _ {Q : Answer (ℤ × ℕ) → Type 0} (ks ns : List ℕ) (i : ℕ) {k mark : ℕ} (f : ℕ → Answer (ℤ × ℕ)) (e : Peek ks i k) where
-  pub ate : k ≡ mark → Ends Q (f (i + 1)) → Ends Q (need (tokens ks ns) mark i >>= f)
-  unfolding need
-  ate q h = via f (eq_yes _ _ _ _ (sym e.is ∙ q)) h
+pub name-there : {k : ℕ} → is_name k ≡ true → 0 < k
+unfolding is_name
+name-there {k = zero} e = let o : ◌≡◌ {A = ℕ} 0 1 = cc in omega arith
+name-there {k = suc k} e = omega arith
 
-  pub missed : (k ≡ mark → ⊥) → Ends Q (refused missing_mark i) → Ends Q (need (tokens ks ns) mark i >>= f)
-  unfolding need
-  missed q h = halt f (eq_no _ _ _ _ (λ z. q (e.is ∙ z))) h
-
--- ---- where a token stands
-
-pub there : {ks : List ℕ} {i k : ℕ} → Peek ks i k → (k ≡ 0 → ⊥) → i < length ks
-there {ks} {i} e n = inside (ltb i (length ks)) refl
-  where
-    inside : (b : Bool) → ltb i (length ks) ≡ b → i < length ks
-    inside true t = ltb-true i (length ks) t
-    inside false t = absurd (n (e.is ∙ get_or-eq_default ks 0 (ltb-false i (length ks) t)))
-
-pub prefix-there : {k : ℕ} → is_prefix k ≡ true → k ≡ 0 → ⊥
+pub prefix-there : {k : ℕ} → is_prefix k ≡ true → 0 < k
 unfolding is_prefix prefix_in prefixes
-prefix-there {k} e z = let f : is_prefix 0 ≡ true = sym (ap is_prefix z) ∙ e in let o : ◌≡◌ {A = ℕ} 0 1 = cc in omega arith
+prefix-there {k = zero} e = let o : ◌≡◌ {A = ℕ} 0 1 = cc in omega arith
+prefix-there {k = suc k} e = omega arith
 
-pub operator-there : {k low : ℕ} → low < precedence k → k ≡ 0 → ⊥
+pub operator-there : {k low : ℕ} → low < precedence k → 0 < k
 unfolding precedence operator_in operators
-operator-there {k} {low} h z = let e = ap precedence z in omega arith
+operator-there {k = zero} h = omega arith
+operator-there {k = suc k} h = omega arith
 
 -- ---- the arms of a condition
 

@@ -3,11 +3,16 @@ use Rattle.std.specs.Prelude.{◌≡◌, List, ℕ, ℤ, Result}
 use Rattle.std.proofs.Math.Option.{Option}
 use Rattle.definition.specs.Token.{Tokens}
 use Rattle.definition.specs.Constant.{Readers, primary}
+use Rattle.encoding.specs.Kinds.{kind_numbers}
 use Rattle.encoding.specs.Refusals.{answer_by}
 use Rattle.encoding.specs.declared.refusals.Refusal.{Refusal}
 use Rattle.constants.specs.Lookup.{known_value}
 use Rattle.constants.specs.declared.Place.{Place}
 use Rattle.constants.specs.declared.Source.{Source}
+
+-- the index of a token
+abbrev pub index : Place → ℕ
+index p = p.at
 
 -- a value, with the index of the token after it
 abbrev pub with_place : Place × ℤ → ℤ × ℕ
@@ -18,7 +23,7 @@ abbrev pub tokens : List ℕ → List ℕ → Tokens
 tokens ks ns = record { kinds = ks; numbers = ns }
 
 abbrev pub tokens_of : Source → Tokens
-tokens_of s = tokens s.kinds.now s.numbers.now
+tokens_of s = tokens (kind_numbers s.kinds.now) s.numbers.now
 
 -- the value of a name
 abbrev pub known_to : Source → ℕ → Option ℤ

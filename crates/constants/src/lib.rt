@@ -1,23 +1,24 @@
 #![tactic(auto)]
 // Constant expressions over the columns of tokens and the enumerators found so far, equal to the definition of the same names.
-ghost use Rattle.std.specs.Prelude.{◌≡◌, ◌+◌, ◌<◌, ◌^◌};
+ghost use Rattle.std.specs.Prelude.{◌≡◌, ◌+◌, ◌<◌, ◌^◌, List, ℕ};
+ghost use Rattle.encoding.specs.Kinds.{kind_number, kind_numbers};
 ghost use Rattle.definition.specs.Constant.{level, constant};
+ghost use Rattle.definition.specs.Token.{need};
 ghost use Rattle.arithmetic.specs.Outcome as arithmetic;
 ghost use Rattle.encoding.specs.Refusals.{answer, answer_by};
 ghost use Rattle.table.specs.Held.{Room};
 ghost use Rattle.table.specs.Reply.{Peek};
 ghost use Rattle.constants.specs.Here.{Evaluates};
 ghost use Rattle.constants.specs.Lookup.{known_value, found};
-ghost use Rattle.constants.specs.Reading.{tokens, tokens_of, known_to, with_place, ReadsPrimary};
+ghost use Rattle.constants.specs.Reading.{tokens, tokens_of, known_to, index, with_place, ReadsPrimary};
 
 use arithmetic::ArithmeticError;
 use encoding::refusals::{Reason, Refusal};
 use encoding::regions::{VALUE_COLUMNS, VALUE_NAME, VALUES_AT};
-use encoding::token_kinds::{
-    BOOL_NAME, CLOSE_PAREN, COLON, IDENTIFIER, NUMBER, OPEN_PAREN, QUESTION,
-};
+use encoding::token_kinds::TokenKind;
 use model::Model;
-use table::{Cursor, kind_at, number_at, value_bound};
+use table::{Cursor, kind_at, number_at, value_bound, word_at};
+use words::classes::is_name;
 
 // Depths 0 to 64.
 const DEPTHS: u32 = Model::MAX_DEPTH + 1;
@@ -27,7 +28,7 @@ const NO_PRECEDENCE: u32 = 0;
 // What constants are read from: the columns of tokens, and the enumerators, which are so many in the lent slices.
 #[derive(Clone, Copy)]
 pub struct Source<'a> {
-    pub kinds: &'a [u32],
+    pub kinds: &'a [TokenKind],
     pub numbers: &'a [u64],
     pub words: &'a [u32],
     pub values: &'a [i64],
@@ -41,7 +42,7 @@ impl Source<'_> {
     {
         let from = self.count.min(value_bound(self.words, name)) as usize;
         for k in (0..from).rev() {
-            if u64::from(kind_at(self.words, VALUES_AT + VALUE_COLUMNS * k + VALUE_NAME)) == name {
+            if u64::from(word_at(self.words, VALUES_AT + VALUE_COLUMNS * k + VALUE_NAME)) == name {
                 return Some(self.values.get(k).copied().unwrap_or(0));
             }
         }
@@ -56,9 +57,9 @@ pub struct Place {
 }
 
 impl Place {
-    // The kind of the token here; 0 past the last.
-    pub fn kind(self, kinds: &[u32]) -> u32
-        ensures { Peek kinds.now self.at result }
+    // The kind of the token here: the end's past the last.
+    pub fn kind(self, kinds: &[TokenKind]) -> TokenKind
+        ensures { Peek (kind_numbers kinds.now) self.at (kind_number result) }
     {
         kind_at(kinds, self.at)
     }
@@ -76,9 +77,24 @@ impl Place {
     {
         Place { at: self.at + 1 }
     }
+
+    // Past a mark, which must stand here.
+    pub fn past(self, kinds: &[TokenKind], mark: TokenKind) -> Result<Place, Refusal>
+        requires { 0 < kind_number mark }
+        ensures { (ns : List ℕ) → answer_by index result ≡ need (tokens (kind_numbers kinds.now) ns) (kind_number mark) self.at }
+    {
+        if self.kind(kinds) != mark {
+            return Err(Refusal {
+                reason: Reason::MissingMark,
+                at: self.at,
+            });
+        }
+        Ok(self.next())
+    }
 }
 
 // An operator's number, or its refusal at `at`.
+#[tactic(auto, using(crate::proofs::Told::told))]
 pub fn settled(n: Result<i64, ArithmeticError>, at: usize) -> Result<i64, Refusal>
     ensures { answer result ≡ arithmetic.answer n at }
 {
@@ -93,18 +109,17 @@ pub fn primary_value(s: &Source<'_>, c: Place) -> Result<(Place, i64), Refusal>
     ensures { ReadsPrimary (tokens_of s.now) (known_to s.now) c.at result }
 {
     let at = c.at;
-    let value = match c.kind(s.kinds) {
-        NUMBER => settled(arithmetic::literal(c.number(s.numbers)), at)?,
-        IDENTIFIER..=BOOL_NAME => s.value_of(c.number(s.numbers)).ok_or(Refusal {
-            reason: Reason::NoConstant,
-            at,
-        })?,
-        _ => {
-            return Err(Refusal {
-                reason: Reason::NoConstant,
-                at,
-            });
-        }
+    let no_constant = Refusal {
+        reason: Reason::NoConstant,
+        at,
+    };
+    let k = c.kind(s.kinds);
+    let value = if k == TokenKind::Number {
+        settled(arithmetic::literal(c.number(s.numbers)), at)?
+    } else if is_name(k) {
+        s.value_of(c.number(s.numbers)).ok_or(no_constant)?
+    } else {
+        return Err(no_constant);
     };
     Ok((c.next(), value))
 }
@@ -127,15 +142,10 @@ pub fn unary(s: &Source<'_>, c: Place, room: u32) -> Result<(Place, i64), Refusa
         let value = settled(operators::prefix(k, x), at)?;
         return Ok((t, value));
     }
-    if k == OPEN_PAREN {
+    if k == TokenKind::OpenParen {
         let (close, x) = conditional(s, c.next(), room - 1)?;
-        if close.kind(s.kinds) != CLOSE_PAREN {
-            return Err(Refusal {
-                reason: Reason::MissingMark,
-                at: close.at,
-            });
-        }
-        return Ok((close.next(), x));
+        let e = close.past(s.kinds, TokenKind::CloseParen)?;
+        return Ok((e, x));
     }
     primary_value(s, c)
 }
@@ -176,17 +186,12 @@ pub fn conditional(s: &Source<'_>, c: Place, room: u32) -> Result<(Place, i64), 
         });
     }
     let (t, x) = binary(s, c, NO_PRECEDENCE, room)?;
-    if t.kind(s.kinds) != QUESTION {
+    if t.kind(s.kinds) != TokenKind::Question {
         return Ok((t, x));
     }
-    let (u, y) = conditional(s, t.next(), room - 1)?;
-    if u.kind(s.kinds) != COLON {
-        return Err(Refusal {
-            reason: Reason::MissingMark,
-            at: u.at,
-        });
-    }
-    let (e, z) = conditional(s, u.next(), room - 1)?;
+    let (colon, y) = conditional(s, t.next(), room - 1)?;
+    let last = colon.past(s.kinds, TokenKind::Colon)?;
+    let (e, z) = conditional(s, last, room - 1)?;
     if x == 0 {
         return Ok((e, z));
     }
@@ -194,6 +199,7 @@ pub fn conditional(s: &Source<'_>, c: Place, room: u32) -> Result<(Place, i64), 
 }
 
 // The constant at a place: its value and the place after it, or its refusal.
+#[tactic(auto, unfolding(definition::specs::Constant::constant))]
 pub fn constant_at(s: &Source<'_>, c: Place) -> Result<(Place, i64), Refusal>
     ensures { answer_by with_place result ≡ constant (tokens_of s.now) (known_to s.now) c.at }
 {
@@ -202,14 +208,14 @@ pub fn constant_at(s: &Source<'_>, c: Place) -> Result<(Place, i64), Refusal>
 
 // The constant where the table's cursor stands, with the enumerators of the table: its value, and the cursor after it.
 pub fn constant_here(
-    kinds: &[u32],
+    kinds: &[TokenKind],
     numbers: &[u64],
     w: &[u32],
     v: &[i64],
     c: Cursor,
 ) -> Result<(Cursor, i64), Refusal>
     requires { Room c }
-    ensures { Evaluates (tokens kinds.now numbers.now) c w.now v.now result }
+    ensures { Evaluates (tokens (kind_numbers kinds.now) numbers.now) c w.now v.now result }
 {
     let s = Source {
         kinds,

@@ -1,6 +1,7 @@
 #![tactic(auto, using(table::proofs::Shown::held_next, table::proofs::Steps::there))]
 // What a declaration leaves in the table, and what may stand after it.
 ghost use Rattle.std.specs.Prelude.{◌≡◌};
+ghost use Rattle.encoding.specs.Kinds.{kind_number, kind_numbers};
 ghost use Rattle.definition.specs.Reader.{define_typedef, is_typedef, declared_row, declare, separated, nothing_more};
 ghost use Rattle.table.specs.Held.{Held};
 ghost use Rattle.table.specs.Reply.{reply, reply_alone, Does, Moves};
@@ -11,7 +12,7 @@ ghost use Rattle.declaration_entries.specs.Tokens.{MovesBy, to, semicolon_passed
 use encoding::refusals::{Reason, Refusal};
 use encoding::row_kinds::TYPEDEF_KIND;
 use encoding::storage::Storage;
-use encoding::token_kinds::{END, SEMICOLON};
+use encoding::token_kinds::TokenKind;
 use named_rows::typedef_row;
 use table::{Answer, Cursor, Declaration, Numbers, kind_at, push_declared, push_row, row_target};
 
@@ -110,37 +111,28 @@ pub fn add_declaration(
 }
 
 // After a declaration: its semicolon, or the end.
-pub fn separated(kinds: &[u32], c: Cursor) -> Result<Cursor, Refusal>
-    ensures { MovesBy separated kinds.now c (reply_alone result) }
+pub fn separated(kinds: &[TokenKind], c: Cursor) -> Result<Cursor, Refusal>
+    ensures { MovesBy separated (kind_numbers kinds.now) c (reply_alone result) }
 {
-    let at = c.at;
-    match kind_at(kinds, at) {
-        SEMICOLON => Ok(c.moved(at + 1)),
-        END => Ok(c),
-        _ => Err(Refusal {
-            reason: Reason::MissingMark,
-            at,
-        }),
+    if kind_at(kinds, c.at) == TokenKind::End {
+        return Ok(c);
     }
+    c.past(kinds, TokenKind::Semicolon)
 }
 
 // A semicolon that may stand here is passed.
-pub fn optional_semicolon(kinds: &[u32], c: Cursor) -> Cursor
-    ensures { MovesBy semicolon_passed kinds.now c (to result) }
+pub fn optional_semicolon(kinds: &[TokenKind], c: Cursor) -> Cursor
+    ensures { MovesBy semicolon_passed (kind_numbers kinds.now) c (to result) }
 {
-    let at = c.at;
-    if kind_at(kinds, at) == SEMICOLON {
-        return c.moved(at + 1);
-    }
-    c
+    c.past(kinds, TokenKind::Semicolon).unwrap_or(c)
 }
 
 // The tokens end here.
-pub fn nothing_more(kinds: &[u32], c: Cursor) -> Result<Cursor, Refusal>
-    ensures { MovesBy nothing_more kinds.now c (reply_alone result) }
+pub fn nothing_more(kinds: &[TokenKind], c: Cursor) -> Result<Cursor, Refusal>
+    ensures { MovesBy nothing_more (kind_numbers kinds.now) c (reply_alone result) }
 {
     let next = c.at;
-    if kind_at(kinds, next) == END {
+    if kind_at(kinds, next) == TokenKind::End {
         return Ok(c);
     }
     Err(Refusal {

@@ -1,20 +1,20 @@
 #![tactic(auto)]
 // What is read before the name of a declarator: stars, and a parenthesis. And declarators that need no steps to be kept.
 ghost use Rattle.std.specs.Prelude.{◌≡◌, ◌+◌, ◌≤◌};
+ghost use Rattle.encoding.specs.Kinds.{kind_number, kind_numbers};
 ghost use Rattle.definition.specs.Limit.{max_steps};
 ghost use Rattle.definition.specs.Declarator.{opens_declarator};
 ghost use Rattle.table.specs.Held.{state, Room};
 ghost use Rattle.model.specs.Meaning.{model};
-ghost use Rattle.naming.specs.Names.{NamesFit};
-ghost use Rattle.skipping.specs.Passing.{tokens};
+ghost use Rattle.naming.specs.Meaning.{tokens};
 ghost use Rattle.declarator_heads.specs.Heads.{Stars, Tells, is_plain, is_plain_pointer};
 
 use declarator_steps::Steps;
 use encoding::refusals::{Reason, Refusal};
-use encoding::token_kinds::{OPEN_BRACKET, OPEN_PAREN, STAR};
+use encoding::token_kinds::TokenKind;
 use model::Model;
 use named_rows::typedef_row;
-use naming::name_at;
+use naming::Tokens;
 use skipping::qualifiers_here;
 use table::{Cursor, kind_at};
 use words::classes::is_name;
@@ -29,15 +29,15 @@ pub struct Starred {
 
 // The stars, with their qualifiers, held until what they stand before is read.
 #[tactic(auto, using(crate::proofs::Rounds::begin, crate::proofs::Rounds::has_room, crate::proofs::Rounds::ended, crate::proofs::Rounds::stopped))]
-pub fn stars(kinds: &[u32], c: Cursor, s: Steps) -> Starred
+pub fn stars(kinds: &[TokenKind], c: Cursor, s: Steps) -> Starred
     requires { s.len + s.held ≤ max_steps }
-    ensures { Stars kinds.now c s result }
+    ensures { Stars (kind_numbers kinds.now) c s result }
 {
     let mut here = c;
     let mut t = s;
     loop {
         let at = here.at;
-        if kind_at(kinds, at) != STAR {
+        if kind_at(kinds, at) != TokenKind::Star {
             return Starred {
                 answer: Ok(here),
                 steps: t,
@@ -57,44 +57,43 @@ pub fn stars(kinds: &[u32], c: Cursor, s: Steps) -> Starred
 }
 
 // A parenthesis opens a declarator, and not a parameter list, before `*`, `(` or a word that names no type.
-#[tactic(auto, unfolding(definition::specs::Declarator::opens_declarator, words::specs::Meaning::known))]
-pub fn opens_declarator(kinds: &[u32], numbers: &[u64], w: &[u32], c: Cursor, m: Model) -> bool
-    requires room { Room c }
-    requires names_fit { NamesFit kinds.now numbers.now }
-    ensures { Tells (λ t. opens_declarator (tokens kinds.now numbers.now) (model m) (state c t)) c w.now result }
+#[tactic(auto, unfolding(definition::specs::Declarator::opens_declarator))]
+pub fn opens_declarator(ts: &Tokens<'_>, w: &[u32], c: Cursor, m: Model) -> bool
+    requires { Room c }
+    ensures { Tells (λ t. opens_declarator (tokens ts.now) (model m) (state c t)) c w.now result }
 {
     let at = c.at;
-    if kind_at(kinds, at) != OPEN_PAREN {
+    if ts.kind(at) != TokenKind::OpenParen {
         return false;
     }
-    let kind = kind_at(kinds, at + 1);
-    if kind == STAR || kind == OPEN_PAREN {
+    let kind = ts.kind(at + 1);
+    if matches!(kind, TokenKind::Star | TokenKind::OpenParen) {
         return true;
     }
     if !is_name(kind) {
         return false;
     }
-    typedef_row(w, c, name_at(numbers, at + 1)).is_none() && builtin(m, kind).is_none()
+    typedef_row(w, c, ts.name(at + 1)).is_none() && builtin(m, kind).is_none()
 }
 
 // A name without a bound or a parameter list after it: a declarator that takes no steps.
 #[tactic(auto, using(crate::proofs::Plain::names), unfolding(crate::specs::Heads::is_plain))]
-pub fn is_plain(kinds: &[u32], at: usize) -> bool
-    ensures { result ≡ is_plain kinds.now at }
+pub fn is_plain(kinds: &[TokenKind], at: usize) -> bool
+    ensures { result ≡ is_plain (kind_numbers kinds.now) at }
 {
     if !is_name(kind_at(kinds, at)) {
         return false;
     }
     let next = kind_at(kinds, at + 1);
-    (next != OPEN_BRACKET) & (next != OPEN_PAREN)
+    !matches!(next, TokenKind::OpenBracket | TokenKind::OpenParen)
 }
 
 // One star with its qualifiers before such a name.
 #[tactic(auto, unfolding(crate::specs::Heads::is_plain_pointer))]
-pub fn is_plain_pointer(kinds: &[u32], at: usize) -> bool
-    ensures { result ≡ is_plain_pointer kinds.now at }
+pub fn is_plain_pointer(kinds: &[TokenKind], at: usize) -> bool
+    ensures { result ≡ is_plain_pointer (kind_numbers kinds.now) at }
 {
-    if kind_at(kinds, at) != STAR {
+    if kind_at(kinds, at) != TokenKind::Star {
         return false;
     }
     let (_, next) = qualifiers_here(kinds, at + 1);

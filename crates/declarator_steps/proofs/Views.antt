@@ -1,7 +1,6 @@
 -- How the views change with the entries. Assumes nothing.
 use mathlib.Core.Path.{◌≡◌, refl, sym, ap, ◌∙◌}
 use mathlib.Core.List.{List, [], ◌∷◌}
-use mathlib.Core.Option.{Option, none, some}
 use Prim.Native.Nat.{ℕ, zero, suc, ◌+◌, ◌-◌, ◌*◌, ◌^◌, ◌≤◌, ◌<◌}
 use native.Mathlib.Omega.{arith}
 use native.Mathlib.Numerals.{add-one}
@@ -10,12 +9,12 @@ use native.Mathlib.Nat.{mul_comm}
 use lib.Arith.{digits_div, digits_mod}
 use lib.Seq.{get_or-set_same, get_or-set_other, length-take-le}
 use Rattle.definition.specs.Limit.{max_steps}
-use Rattle.definition.specs.Row.{Qualifiers}
-use Rattle.definition.specs.Grammar.{DeclaratorStep, pointer_step, array_step}
+use Rattle.definition.specs.Row.{Qualifiers, qualifier_bits}
+use Rattle.definition.specs.Grammar.{DeclaratorStep, pointer_step}
 use Rattle.definition.specs.Declarator.{starred}
 use Rattle.words.specs.Meaning.{qualifiers_in}
-use Rattle.declarator_steps.specs.Pending.{pointer_kind, span_of, step_from, step_of, kept, steps_from, stars_from, Pending, pending, none_pending, no_steps, with_step, with_star, released}
-use Rattle.declarator_steps.specs.declared.Step.{Step}
+use Rattle.words.proofs.Uses.{bits-qualifiers}
+use Rattle.declarator_steps.specs.Pending.{pointer_kind, span_of, step_from, steps_from, stars_from, Pending, pending, none_pending, no_steps, with_step, with_star, released}
 use Rattle.declarator_steps.specs.declared.Steps.{Steps}
 
 -- ---- lengths
@@ -85,12 +84,7 @@ pub span_is : (first count : ℕ) → count < 2 ^ 32 → span_of (2 ^ 32 * first
 unfolding span_of
 span_is first count h = rw (mul_comm (2 ^ 32) first, digits_div first {m = 2 ^ 32} h, digits_mod first {m = 2 ^ 32} h)
 
--- ---- for callers: what is kept means the step that it keeps
-
-pub array-kept : (o : Option ℕ) {x : Step} → x ≡ kept (array_step o) → step_of x ≡ array_step o
-unfolding kept step_from
-array-kept none e = ap step_of e
-array-kept (some n) e = ap step_of e
+-- ---- for callers
 
 pub none-pending : {s : Steps} → s ≡ no_steps → pending s ≡ none_pending
 unfolding steps_from stars_from
@@ -146,6 +140,11 @@ releases n i s t r h =
 pub all-released : (n i : ℕ) (s t : Steps) → Releasing n s t i → n ≤ i → pending t ≡ released n (pending s)
 unfolding starred
 all-released n i s t r h = let e : n - i ≡ 0 = omega arith in sym (r.same ∙ ap (λ m. released m (pending t)) e)
+
+-- ---- qualifiers as bits
+
+pub bits_back : (q : Qualifiers) → qualifiers_in (qualifier_bits q) ≡ q
+bits_back q = bits-qualifiers q
 
 -- ---- for callers: the counts, from what is pending
 

@@ -7,11 +7,12 @@ use Rattle.definition.specs.Limit.{max_steps}
 use Rattle.definition.specs.Row.{Qualifiers, Span, qualifier_bits}
 use Rattle.definition.specs.Grammar.{DeclaratorStep, pointer_step, array_step, function_step}
 use Rattle.definition.specs.Declarator.{starred}
+use Rattle.encoding.specs.Spans.{span}
+use Rattle.lemmas.specs.Options.{option}
 use Rattle.words.specs.Meaning.{qualifiers, qualifiers_in}
 use Rattle.declarator_steps.specs.declared.Step.{Step}
+use Rattle.declarator_steps.specs.declared.Step.TheVariants.{Pointer, Array, Function}
 use Rattle.declarator_steps.specs.declared.Steps.{Steps}
-use Rattle.declarator_steps.specs.declared.Shape.{Shape}
-use Rattle.declarator_steps.specs.declared.Shape.TheVariants.{Pointer, Array, Bounded, Function}
 
 -- Kinds of steps. An operand is a pointer's qualifiers, a bound, or where a function's parameters stand.
 abbrev pub pointer_kind : ℕ
@@ -50,30 +51,26 @@ step_from kind operand =
           ]
     ]
 
-abbrev pub step_of : Step → DeclaratorStep
-step_of x = step_from x.kind x.operand
-
 -- the step of an entry
-abbrev pub step_in : List ℕ → List ℕ → ℕ → Step
-step_in kinds operands i = record { kind = get_or kinds i 0; operand = get_or operands i 0 }
+abbrev pub step_in : List ℕ → List ℕ → ℕ → DeclaratorStep
+step_in kinds operands i = step_from (get_or kinds i 0) (get_or operands i 0)
 
 -- The other way: how a step is kept.
 abbrev pub function_kind_of : Bool → ℕ
 function_kind_of true = variadic_kind
 function_kind_of false = function_kind
 
-unfoldable pub kept : DeclaratorStep → Step
-kept (pointer_step q) = record { kind = pointer_kind; operand = qualifier_bits q }
-kept (array_step none) = record { kind = array_kind; operand = 0 }
-kept (array_step (some n)) = record { kind = bounded_kind; operand = n }
-kept (function_step v e) = record { kind = function_kind_of v; operand = 2 ^ 32 * e.first + e.count }
+unfoldable pub kept : DeclaratorStep → ℕ × ℕ
+kept (pointer_step q) = (pointer_kind, qualifier_bits q)
+kept (array_step none) = (array_kind, 0)
+kept (array_step (some n)) = (bounded_kind, n)
+kept (function_step v e) = (function_kind_of v, 2 ^ 32 * e.first + e.count)
 
--- the same, told apart
-unfoldable pub shape_step : Shape → DeclaratorStep
-shape_step (Pointer q) = pointer_step (qualifiers q)
-shape_step Array = array_step none
-shape_step (Bounded n) = array_step (some n)
-shape_step (Function v first count) = function_step v (record { first = first; count = count })
+-- the step that one of the code means
+abbrev pub step_of : Step → DeclaratorStep
+step_of (Pointer q) = pointer_step (qualifiers q)
+step_of (Array n) = array_step (option n)
+step_of (Function v e) = function_step v (span e)
 
 -- the first n entries as steps, the last of them first
 unfoldable pub steps_from : List ℕ → List ℕ → ℕ → List DeclaratorStep

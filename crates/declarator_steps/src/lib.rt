@@ -1,42 +1,34 @@
 #![tactic(auto)]
 // The pending steps of a declarator: "at most 256 stars, bounds and parameter lists in one declarator".
-ghost use Rattle.std.specs.Prelude.{◌≡◌, ◌∷◌, ◌+◌, ◌<◌, leb};
-ghost use Rattle.std.proofs.Math.Option.{none, some};
+ghost use Rattle.std.specs.Prelude.{◌≡◌, ◌∷◌, ◌+◌, ◌<◌, leb, get_or};
 ghost use Rattle.definition.specs.Limit.{max_steps};
-ghost use Rattle.definition.specs.Grammar.{array_step, function_step};
 ghost use Rattle.words.specs.Meaning.{qualifiers};
-ghost use Rattle.declarator_steps.specs.Pending.{step_of, step_in, kept, shape_step, steps_from, pending, none_pending, no_steps, with_step, with_star, released, Room, Waiting};
+ghost use Rattle.declarator_steps.specs.Pending.{step_of, step_from, step_in, kept, steps_from, pending, none_pending, no_steps, with_step, with_star, released, Room, Waiting};
 
+use encoding::span::Span;
 use model::Model;
 use words::qualifiers::Qualifiers;
 
-// Kinds of steps.
-pub const POINTER: u32 = 1;
+// Kinds of steps, as they are kept.
+const POINTER: u32 = 1;
 
-pub const ARRAY: u32 = 2;
+const ARRAY: u32 = 2;
 
-pub const BOUNDED: u32 = 3;
+const BOUNDED: u32 = 3;
 
-pub const FUNCTION: u32 = 4;
+const FUNCTION: u32 = 4;
 
-pub const VARIADIC: u32 = 5;
+const VARIADIC: u32 = 5;
+
 // Where a function's parameters stand: the first of them in this unit, and their count below it.
 const FIRST_UNIT: u64 = 4294967296;
 
-// A step as it is kept.
+// A star with its qualifiers; a bound, if there is one; a parameter list: whether it has `...`, and where its entries stand.
 #[derive(Clone, Copy)]
-pub struct Step {
-    pub kind: u32,
-    pub operand: u64,
-}
-
-// A step told apart: qualifiers; no bound; a bound; `...`, first parameter and count.
-#[derive(Clone, Copy)]
-pub enum Shape {
+pub enum Step {
     Pointer(Qualifiers),
-    Array,
-    Bounded(u64),
-    Function(bool, u32, u32),
+    Array(Option<u64>),
+    Function(bool, Span),
 }
 
 // The steps stand at the start, the stars that wait at the end, from the last entry down.
@@ -48,52 +40,38 @@ pub struct Steps {
     pub held: usize,
 }
 
-#[tactic(auto, using(crate::proofs::Views::span_is), unfolding(crate::specs::Pending::kept, crate::specs::Pending::step_from))]
 impl Step {
-    pub fn unbounded() -> Step
-        ensures kept { result ≡ kept (array_step none) }
-        ensures means { step_of result ≡ array_step none }
+    // Its kind and its operand.
+    #[tactic(auto, using(crate::proofs::Views::span_is, crate::proofs::Views::bits_back), unfolding(crate::specs::Pending::kept, crate::specs::Pending::step_from))]
+    #[inline(always)]
+    fn kept(self) -> (u32, u64)
+        ensures kept { result ≡ kept (step_of self) }
+        ensures means { step_from result.0 result.1 ≡ step_of self }
     {
-        Step {
-            kind: ARRAY,
-            operand: 0,
+        match self {
+            Step::Pointer(q) => (POINTER, u64::from(q.bits())),
+            Step::Array(None) => (ARRAY, 0),
+            Step::Array(Some(bound)) => (BOUNDED, bound),
+            Step::Function(varargs, Span { first, count }) => {
+                let kind = if varargs { VARIADIC } else { FUNCTION };
+                (kind, FIRST_UNIT * u64::from(first) + u64::from(count))
+            }
         }
     }
 
-    pub fn bounded(bound: u64) -> Step
-        ensures kept { result ≡ kept (array_step (some bound)) }
-        ensures means { step_of result ≡ array_step (some bound) }
+    // The step of a kind and an operand.
+    #[tactic(auto, unfolding(crate::specs::Pending::step_from, crate::specs::Pending::span_of))]
+    fn from_kept(kind: u32, operand: u64) -> Step
+        ensures { step_of result ≡ step_from kind operand }
     {
-        Step {
-            kind: BOUNDED,
-            operand: bound,
-        }
-    }
-
-    // A function whose parameters stand from entry `first` on.
-    pub fn function(varargs: bool, first: u32, count: u32) -> Step
-        ensures kept { result ≡ kept (function_step varargs (record { first = first; count = count })) }
-        ensures means { step_of result ≡ function_step varargs (record { first = first; count = count }) }
-    {
-        Step {
-            kind: if varargs { VARIADIC } else { FUNCTION },
-            operand: FIRST_UNIT * u64::from(first) + u64::from(count),
-        }
-    }
-
-    #[tactic(auto, unfolding(crate::specs::Pending::step_from, crate::specs::Pending::shape_step, crate::specs::Pending::span_of))]
-    pub fn shape(self) -> Shape
-        ensures { shape_step result ≡ step_of self }
-    {
-        let Step { kind, operand } = self;
         match kind {
-            POINTER => Shape::Pointer(Qualifiers::from_bits(operand)),
-            ARRAY => Shape::Array,
-            BOUNDED => Shape::Bounded(operand),
+            POINTER => Step::Pointer(Qualifiers::from_bits(operand)),
+            ARRAY => Step::Array(None),
+            BOUNDED => Step::Array(Some(operand)),
             _ => {
                 let first = (operand / FIRST_UNIT) as u32;
                 let count = (operand % FIRST_UNIT) as u32;
-                Shape::Function(kind != FUNCTION, first, count)
+                Step::Function(kind != FUNCTION, Span { first, count })
             }
         }
     }
@@ -124,23 +102,22 @@ impl Steps {
     #[tactic(auto, using(crate::proofs::Views::steps_more))]
     pub fn step_at(&self, i: usize) -> Step
         requires { i < max_steps }
-        ensures kept { result ≡ step_in self.now.kinds self.now.operands i }
+        ensures kept { step_of result ≡ step_in self.now.kinds self.now.operands i }
         ensures means { steps_from self.now.kinds self.now.operands (i + 1) ≡ step_of result ∷ steps_from self.now.kinds self.now.operands i }
     {
-        Step {
-            kind: self.kinds[i],
-            operand: self.operands[i],
-        }
+        Step::from_kept(self.kinds[i], self.operands[i])
     }
 
-    // One more step, which a base type takes before the others.
+    // One more step, which a base type takes before the others. Put into its caller: else that keeps its 3 KB of steps once more.
+    #[inline(always)]
     pub fn push(&mut self, x: Step)
         requires { Room self.old }
         ensures { pending self.new ≡ with_step (pending self.old) (step_of x) }
     {
         let n = self.len;
-        self.kinds[n] = x.kind;
-        self.operands[n] = x.operand;
+        let (kind, operand) = x.kept();
+        self.kinds[n] = kind;
+        self.operands[n] = operand;
         self.len += 1;
     }
 

@@ -12,7 +12,7 @@ use lib.ListN.{length}
 use Rattle.definition.specs.Answer.{Answer, got, refused, ◌>>=◌}
 use Rattle.definition.specs.Refusal.{impossible_type}
 use Rattle.definition.specs.RowKind.{void_kind, array_kind, function_kind}
-use Rattle.definition.specs.Row.{Row, pointer, array, function, kind_of, target_of, flags_of, row_name, span_of, extent_of}
+use Rattle.definition.specs.Row.{Row, pointer, array, function, kind_of, target_of, flags_of, row_name, span_of, extent_of, Span}
 use Rattle.definition.specs.Table.{Parameter, Table, State, mark_of}
 use Rattle.definition.specs.Types.{add, qualify, same_numbers, same_parameter, pairwise, parameters_of, same_entries, same_row, equal_row, resolved_kind}
 use Rattle.definition.specs.Grammar.{DeclaratorStep, pointer_step, array_step, function_step}
@@ -25,16 +25,22 @@ use Rattle.table.specs.Reply.{numbers}
 use Rattle.table.specs.declared.Cursor.{Cursor}
 use Rattle.table.specs.declared.Numbers.{Numbers}
 use Rattle.declarator_steps.specs.Pending.{steps_from}
-use Rattle.derived_types.specs.Derives.{span}
 use Rattle.lemmas.specs.Options.{option}
 use Rattle.std.specs.Prelude.{Option as StdOption, Some, None, is_some, unwrap_or, min}
 use Rattle.std.proofs.Math.Nat.{min-eq_left}
 use borrow.Author.Tests.{leb-true, leb-false}
 
+-- an array's row, by its bound
+pub array_numbers : (element : ℕ) (o : StdOption ℕ)
+    → ◌≡◌ {A = Numbers} (record { kind = 5; target = element; flags = bool_byte (is_some o); name = 0; first = 0; count = 0; extent = unwrap_or o 0 }) (numbers (array element (option o)))
+unfolding kind_of target_of flags_of row_name span_of extent_of
+array_numbers element (Some n) = refl
+array_numbers element None = refl
+
 -- a function's row, by what it returns and whether it takes `...`
 pub function_numbers : (o : StdOption ℕ) (v : Bool) (first count : ℕ)
     → ◌≡◌ {A = Numbers} (record { kind = 9; target = unwrap_or o 0; flags = bool_byte (is_some o) + 2 * bool_byte v; name = 0; first = first; count = count; extent = 0 })
-    (numbers (function (option o) v (span first count)))
+    (numbers (function (option o) v (record { first = first; count = count })))
 unfolding kind_of target_of flags_of row_name span_of extent_of
 function_numbers (Some n) true first count = refl
 function_numbers (Some n) false first count = refl
@@ -107,6 +113,9 @@ module _ {ks os : List ℕ} {i : ℕ} {c : Cursor} {row : ℕ} {w d : List ℕ} 
       by (g.same ∙ ap (λ m. apply (steps_from ks os m) row (state c g.table)) n) (k g.table g.holds)
 
 -- ---- lists that begin past the last parameter
+
+abbrev span : ℕ → ℕ → Span
+span first count = record { first = first; count = count }
 
 either : {p q : Bool} {y z : Option ℕ} (n : ℕ) → p ≡ q → y ≡ z
     → ◌≡◌ {A = Option ℕ} (elim p as (λ b. Option ℕ) [ true ↦ some n | false ↦ y ]) (elim q as (λ b. Option ℕ) [ true ↦ some n | false ↦ z ])

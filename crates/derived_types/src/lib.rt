@@ -2,22 +2,23 @@
 // What the steps of a declarator make of a type: stars, bounds and parameter lists; and the types of parameters.
 ghost use Rattle.std.specs.Prelude.{◌≡◌, [], ◌∷◌, ◌≤◌};
 ghost use Rattle.definition.specs.Limit.{max_steps};
-ghost use Rattle.definition.specs.Row.{pointer, function};
+ghost use Rattle.definition.specs.Row.{pointer, array, function};
 ghost use Rattle.definition.specs.Types.{add};
 ghost use Rattle.definition.specs.Grammar.{array_step, function_step, pointer_step};
 ghost use Rattle.definition.specs.Declarator.{add_function, returned, apply, adjusted};
 ghost use Rattle.table.specs.Held.{Held};
-ghost use Rattle.table.specs.Reply.{reply, numbers, Does, DoesAs};
+ghost use Rattle.table.specs.Reply.{reply, numbers, Does};
+ghost use Rattle.encoding.specs.Spans.{span};
 ghost use Rattle.lemmas.specs.Options.{option};
 ghost use Rattle.named_rows.specs.Finds.{Says};
-ghost use Rattle.declarator_steps.specs.Pending.{shape_step, pending};
+ghost use Rattle.declarator_steps.specs.Pending.{step_of, pending};
 ghost use Rattle.words.specs.Meaning.{qualifiers};
-ghost use Rattle.derived_types.specs.Derives.{span, bound_numbers};
 
-use declarator_steps::{Shape, Steps};
+use declarator_steps::{Step, Steps};
 use encoding::refusals::{Reason, Refusal};
 use encoding::regions::NO_ROW;
 use encoding::row_kinds::{ARRAY_KIND, FUNCTION_KIND, POINTER_KIND, VOID_KIND};
+use encoding::span::Span;
 use model::Model;
 use named_rows::{resolve, resolved_kind};
 use open_lists::own_parameters;
@@ -61,18 +62,31 @@ pub fn apply_pointer(
     qualify(w, d, v, e, q, n)
 }
 
-// A bound, given as the numbers of an array's row.
+// The row of an array.
+#[tactic(auto, using(crate::proofs::Derived::array_numbers))]
+fn array_row(element: u32, bound: Option<u64>) -> Numbers
+    ensures { result ≡ numbers (array element (option bound)) }
+{
+    Numbers {
+        kind: ARRAY_KIND,
+        target: element,
+        flags: u32::from(bound.is_some()),
+        extent: bound.unwrap_or(0),
+        ..Numbers::ZERO
+    }
+}
+
+// A bound, if there is one.
 fn apply_array(
     w: &mut [u32],
     d: &mut [u64],
     v: &mut [i64],
     c: Cursor,
-    flags: u32,
-    extent: u64,
+    bound: Option<u64>,
     b: u32,
 ) -> Answer<u32>
     requires { Held c w.old d.old v.old }
-    ensures { DoesAs bound_numbers (flags, extent) (λ n. apply (array_step n ∷ []) b) c w.old d.old v.old (reply result) w.new d.new v.new }
+    ensures { Does (apply (array_step (option bound) ∷ []) b) c w.old d.old v.old (reply result) w.new d.new v.new }
 {
     if resolved_kind(w, b) == VOID_KIND {
         return Err(Refusal {
@@ -80,26 +94,14 @@ fn apply_array(
             at: c.at,
         });
     }
-    add_row(
-        w,
-        d,
-        v,
-        c,
-        Numbers {
-            kind: ARRAY_KIND,
-            target: b,
-            flags,
-            extent,
-            ..Numbers::ZERO
-        },
-    )
+    add_row(w, d, v, c, array_row(b, bound))
 }
 
 // A function of void returns nothing.
 fn returned(w: &[u32], b: u32) -> Option<u32>
     ensures { Says (λ t. returned t b) w.now (option result) }
 {
-    if resolve(w, b) == VOID_KIND {
+    if resolve(w, b) == NO_ROW {
         None
     } else {
         Some(b)
@@ -108,15 +110,15 @@ fn returned(w: &[u32], b: u32) -> Option<u32>
 
 // The row of a function.
 #[tactic(auto, using(crate::proofs::Derived::function_numbers))]
-fn function_row(returns: Option<u32>, varargs: bool, first: u32, count: u32) -> Numbers
-    ensures { result ≡ numbers (function (option returns) varargs (span first count)) }
+fn function_row(returns: Option<u32>, varargs: bool, parameters: Span) -> Numbers
+    ensures { result ≡ numbers (function (option returns) varargs (span parameters)) }
 {
     Numbers {
         kind: FUNCTION_KIND,
         target: returns.unwrap_or(NO_ROW),
-        flags: returns.is_some() as u32 + 2 * (varargs as u32),
-        first,
-        count,
+        flags: u32::from(returns.is_some()) + 2 * u32::from(varargs),
+        first: parameters.first,
+        count: parameters.count,
         ..Numbers::ZERO
     }
 }
@@ -129,18 +131,19 @@ pub fn add_function(
     c: Cursor,
     returns: Option<u32>,
     varargs: bool,
-    first: u32,
-    count: u32,
+    parameters: Span,
 ) -> Answer<u32>
     requires { Held c w.old d.old v.old }
-    ensures { Does (add_function (option returns) varargs (span first count)) c w.old d.old v.old (reply result) w.new d.new v.new }
+    ensures { Does (add_function (option returns) varargs (span parameters)) c w.old d.old v.old (reply result) w.new d.new v.new }
 {
-    let like = function_row(returns, varargs, first.min(LAST_FIRST), count);
+    let Span { first, count } = parameters;
+    let near = first.min(LAST_FIRST);
+    let like = function_row(returns, varargs, Span { first: near, count });
     if let Some(n) = equal_row(w, d, v, c, like) {
         own_parameters(w, c, first, NO_ROW);
         return Ok((c, n));
     }
-    let (e, n) = push_row(w, d, v, c, function_row(returns, varargs, first, count))?;
+    let (e, n) = push_row(w, d, v, c, function_row(returns, varargs, parameters))?;
     own_parameters(w, e, first, n);
     Ok((e, n))
 }
@@ -152,12 +155,11 @@ fn apply_function(
     v: &mut [i64],
     c: Cursor,
     varargs: bool,
-    first: u32,
-    count: u32,
+    parameters: Span,
     b: u32,
 ) -> Answer<u32>
     requires { Held c w.old d.old v.old }
-    ensures { Does (apply (function_step varargs (span first count) ∷ []) b) c w.old d.old v.old (reply result) w.new d.new v.new }
+    ensures { Does (apply (function_step varargs (span parameters) ∷ []) b) c w.old d.old v.old (reply result) w.new d.new v.new }
 {
     let kind = resolved_kind(w, b);
     if kind == ARRAY_KIND || kind == FUNCTION_KIND {
@@ -166,7 +168,7 @@ fn apply_function(
             at: c.at,
         });
     }
-    add_function(w, d, v, c, returned(w, b), varargs, first, count)
+    add_function(w, d, v, c, returned(w, b), varargs, parameters)
 }
 
 // One step.
@@ -175,19 +177,16 @@ fn apply_step(
     d: &mut [u64],
     v: &mut [i64],
     c: Cursor,
-    x: Shape,
+    x: Step,
     b: u32,
 ) -> Answer<u32>
     requires { Held c w.old d.old v.old }
-    ensures { Does (apply (shape_step x ∷ []) b) c w.old d.old v.old (reply result) w.new d.new v.new }
+    ensures { Does (apply (step_of x ∷ []) b) c w.old d.old v.old (reply result) w.new d.new v.new }
 {
     match x {
-        Shape::Pointer(q) => apply_pointer(w, d, v, c, q, b),
-        Shape::Array => apply_array(w, d, v, c, 0, 0, b),
-        Shape::Bounded(n) => apply_array(w, d, v, c, 1, n, b),
-        Shape::Function(varargs, first, count) => {
-            apply_function(w, d, v, c, varargs, first, count, b)
-        }
+        Step::Pointer(q) => apply_pointer(w, d, v, c, q, b),
+        Step::Array(bound) => apply_array(w, d, v, c, bound, b),
+        Step::Function(varargs, parameters) => apply_function(w, d, v, c, varargs, parameters, b),
     }
 }
 
@@ -206,7 +205,7 @@ pub fn apply(
     let mut here = c;
     let mut row = b;
     for i in (0..s.len).rev() {
-        let x = s.step_at(i).shape();
+        let x = s.step_at(i);
         let (e, n) = apply_step(w, d, v, here, x, row)?;
         here = e;
         row = n;

@@ -6,14 +6,14 @@ use mathlib.Mathlib.Data.Bool.Basic.{and_elim_left}
 use Prim.Native.Nat.{ℕ, suc, ◌+◌, ◌-◌, ◌≤◌, ◌<◌, min}
 use native.Mathlib.Omega.{arith}
 use lib.Dec.{eqb, leb}
-use lib.ListN.{length, length-drop}
+use lib.ListN.{length, get_or, length-drop}
 use Rattle.definition.specs.Text.{Bytes, byte_at}
 use Rattle.definition.specs.Scan.{from, begins, before}
 use Rattle.definition.specs.Comment.{joins, opens_line_comment, opens_comment, ends_line, line_length, ends_comment, comment_end}
 use Rattle.definition.specs.Directive.{Line, line_from, directive, is_macro}
 use Rattle.definition_laws.proofs.LexerProgress.{before_le, first-from}
 use Rattle.lemmas.proofs.Branch.{yes, nay, le_yes, le_no}
-use Rattle.scan.proofs.Going.{begins-is, begins-inside, going}
+use Rattle.scan.proofs.Going.{inside, begins-is, begins-inside, going}
 use borrow.Author.Tests.{leb-true, leb-false, eqb-true, eq-eqb, ne_eqb}
 use native.Mathlib.Nat.{min-eq_left, min-eq_right, le_of_lt}
 use Rattle.directives.specs.declared.State.{State}
@@ -78,13 +78,13 @@ module _ (text : Bytes) (i : ℕ) (s : State) {keeps : Bool} {next : ℕ} (g : T
             }
 
         module _ (nn : begins 47 47 (from text i) ≡ false) where
-          pub line-feed : byte_at text i ≡ 10 → (wanted s [] ≡ keeps) × (i ≡ next)
+          pub line-feed : get_or text i 0 ≡ 10 → (wanted s [] ≡ keeps) × (i ≡ next)
           unfolding line_from joins opens_comment opens_line_comment ends_line
-          line-feed e = ends (le_no _ _ _ _ h ∙ (nay _ _ _ nj ∙ (nay _ _ _ nc ∙ (nay _ _ _ nn ∙ yes _ _ _ (eq-eqb _ _ (first-from text i ∙ e))))))
+          line-feed e = ends (le_no _ _ _ _ h ∙ (nay _ _ _ nj ∙ (nay _ _ _ nc ∙ (nay _ _ _ nn ∙ yes _ _ _ (eq-eqb _ _ (first-from text i ∙ (sym (inside text i h) ∙ e)))))))
 
-          pub line_byte : (t : State) → (byte_at text i ≡ 10 → ⊥) → ((rest : Bytes) → wanted t rest ≡ wanted s (byte_at text i ∷ rest)) → Turning text (i + 1) t keeps next
+          pub line_byte : (t : State) → (get_or text i 0 ≡ 10 → ⊥) → ((rest : Bytes) → wanted t rest ≡ wanted s (get_or text i 0 ∷ rest)) → Turning text (i + 1) t keeps next
           unfolding line_from joins opens_comment opens_line_comment ends_line
-          line_byte t e q = goes t (byte_at text i) (i + 1) (omega arith) (omega arith) q (le_no _ _ _ _ h ∙ (nay _ _ _ nj ∙ (nay _ _ _ nc ∙ (nay _ _ _ nn ∙ nay _ _ _ (ne_eqb _ _ (λ z. e (sym (first-from text i) ∙ z)))))))
+          line_byte t e q = goes t (byte_at text i) (i + 1) (omega arith) (omega arith) (λ rest. q rest ∙ ap (λ (b : ℕ). wanted s (b ∷ rest)) (inside text i h)) (le_no _ _ _ _ h ∙ (nay _ _ _ nj ∙ (nay _ _ _ nc ∙ (nay _ _ _ nn ∙ nay _ _ _ (ne_eqb _ _ (λ z. e (inside text i h ∙ (sym (first-from text i) ∙ z))))))))
 
 -- how far a comment goes
 pub comment_inside : (text : Bytes) (i : ℕ) → i ≤ length text → i + before ends_comment (from text i) ≤ length text

@@ -1,1 +1,3 @@
+pub mod KindColumns
 pub mod Numbered
+pub mod TokenKinds

@@ -4,3 +4,4 @@ pub mod Names
 pub mod Refusals
 pub mod Regions
 pub mod Storage
+pub mod Spans

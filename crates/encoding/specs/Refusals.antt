@@ -1,13 +1,10 @@
--- The refusals: all in order, the number of each, and an answer of the code as the definition's.
-use Rattle.std.specs.Prelude.{List, [], ◌∷◌, ℕ, Result, Ok, Err}
+-- The refusals: the number of each, and an answer of the code as the definition's.
+use Rattle.std.specs.Prelude.{ℕ, Result, Ok, Err}
 use Rattle.definition.specs.Answer.{Answer, got, refused}
 use Rattle.definition.specs.Refusal.{bad_call, text_too_long, not_ascii, macro_line, not_closed, bad_literal, stray_byte, out_of_range, too_deep, missing_mark, bad_type_words, unknown_type, layout_attribute, missing_name, typedef_changed, impossible_type, member_storage, bad_bound, bad_width, unknown_size, record_too_large, division_by_zero, no_constant, not_one_declaration, fixed_enum, layout_overflow, limit_passed}
 use Rattle.encoding.specs.declared.refusals.Reason.{Reason}
 use Rattle.encoding.specs.declared.refusals.Reason.TheVariants.{BadCall, TextTooLong, NotAscii, MacroLine, NotClosed, BadLiteral, StrayByte, OutOfRange, TooDeep, MissingMark, BadTypeWords, UnknownType, LayoutAttribute, MissingName, TypedefChanged, ImpossibleType, MemberStorage, BadBound, BadWidth, UnknownSize, RecordTooLarge, DivisionByZero, NoConstant, NotOneDeclaration, FixedEnum, LayoutOverflow, LimitPassed}
 use Rattle.encoding.specs.declared.refusals.Refusal.{Refusal}
-
-abbrev pub refusals : List ℕ
-refusals = bad_call ∷ text_too_long ∷ not_ascii ∷ macro_line ∷ not_closed ∷ bad_literal ∷ stray_byte ∷ out_of_range ∷ too_deep ∷ missing_mark ∷ bad_type_words ∷ unknown_type ∷ layout_attribute ∷ missing_name ∷ typedef_changed ∷ impossible_type ∷ member_storage ∷ bad_bound ∷ bad_width ∷ unknown_size ∷ record_too_large ∷ division_by_zero ∷ no_constant ∷ not_one_declaration ∷ fixed_enum ∷ layout_overflow ∷ limit_passed ∷ []
 
 abbrev pub number_of : Reason → ℕ
 number_of BadCall = bad_call

@@ -43,19 +43,3 @@ impl From<u32> for Storage {
         }
     }
 }
-
-impl Storage {
-    // Its number in the table of declarations.
-    pub fn number(self) -> u32
-        ensures { result ≡ storage_number (storage self) }
-    {
-        u32::from(self)
-    }
-
-    // The storage of a number from the table.
-    pub fn numbered(n: u32) -> Storage
-        ensures { storage result ≡ storage_numbered n }
-    {
-        Storage::from(n)
-    }
-}

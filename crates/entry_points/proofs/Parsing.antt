@@ -20,7 +20,7 @@ use Rattle.definition.specs.Reader.{declaration, declarations_from, optional_sem
 use Rattle.definition.specs.NameTable.{name_table}
 use Rattle.definition.specs.Entry as meant
 use Rattle.table.specs.Held.{state, Counts as Counted, Encodes, Long, Left as Remains}
-use Rattle.table.specs.Reply.{Peek, Moves, ok, bad, none, reply_alone}
+use Rattle.table.specs.Reply.{Peek, Moves, ok, none, reply_alone}
 use Rattle.table.specs.declared.Cursor.{Cursor}
 use Rattle.lemmas.proofs.Branch.{eq_yes, eq_no, le_yes, le_no}
 use Rattle.table.proofs.Shown.{long, room, left, went, said, leaves}
@@ -43,13 +43,6 @@ module _ (ks ps ns : List ℕ) (end at k : ℕ) (p : Peek ks at k) where
   unfolding here
   here-token e i q = q.is ∙ sym (eq_no (get_or ks at 0) 0 end (get_or ps at 0) (λ z. e (p.is ∙ z)))
 
--- a refusal's token as its offset, from what was said of each refusal
-pub in_text_by : (x : Lexed) (r₀ r : Result Cursor Refusal) → MatchResult r₀ (λ c. r ≡ Ok c) (λ y. IsErrAnd r (λ z. z ≡ record { reason = y.reason; at = here x y.at })) → answer r ≡ in_text x (answer r₀)
-unfolding in_text
-in_text_by x (Ok c) r q = rw q
-in_text_by x (Err y) (Ok c) q = absurd q
-in_text_by x (Err y) (Err z) q = rw q
-
 -- ---- the two readers
 
 module _ (ks ps ns : List ℕ) (end : ℕ) (m : Model) where
@@ -59,58 +52,50 @@ module _ (ks ps ns : List ℕ) (end : ℕ) (m : Model) where
   abbrev first : State
   first = state first_cursor new_table
 
-  abbrev whole_from : State → Answer State
-  whole_from s = declarations_from x.tokens m (suc (length ks - 0)) s
+  -- what an entry reads of the tokens
+  abbrev pub from : meant.Entry → State → Answer State
+  from meant.wholeHeader s = declarations_from x.tokens m (suc (length ks - 0)) s
+  from meant.singleDeclaration s = declaration x.tokens m s >>= λ s₁. nothing_more x.tokens m (optional_semicolon x.tokens m s₁)
 
-  abbrev lone_from : State → Answer State
-  lone_from s = declaration x.tokens m s >>= λ s₁. nothing_more x.tokens m (optional_semicolon x.tokens m s₁)
+  parse_no : (entry : meant.Entry) (n i : ℕ) → from entry first ≡ refused n i → meant.parse entry x m ≡ refused n (here x i)
+  unfolding meant.parse translation_unit all_declarations one_declaration lone_declaration in_text ◌>>=◌
+  parse_no meant.wholeHeader n i e = rw e
+  parse_no meant.singleDeclaration n i e = rw e
 
-  header_got : (s : State) → whole_from first ≡ got s → meant.parse meant.wholeHeader x m ≡ got s.table
-  unfolding meant.parse translation_unit all_declarations in_text ◌>>=◌
-  header_got s e = rw e
-
-  header_no : (n i : ℕ) → whole_from first ≡ refused n i → meant.parse meant.wholeHeader x m ≡ refused n (here x i)
-  unfolding meant.parse translation_unit all_declarations in_text ◌>>=◌
-  header_no n i e = rw e
-
-  one_bind : (s : State) → lone_from first ≡ got s
+  one_bind : (s : State) → from meant.singleDeclaration first ≡ got s
       → meant.parse meant.singleDeclaration x m ≡ elim (leb (length s.table.declarations) 1) as (λ z. Answer Table) [ true ↦ got s.table | false ↦ refused not_one_declaration 0 ]
   unfolding meant.parse one_declaration lone_declaration in_text ◌>>=◌
   one_bind s e = rw e
 
-  one-got : (s : State) → lone_from first ≡ got s → length s.table.declarations ≤ 1 → meant.parse meant.singleDeclaration x m ≡ got s.table
-  one-got s e p = one_bind s e ∙ le_yes (length s.table.declarations) 1 _ _ p
+  parse-got : (entry : meant.Entry) (s : State) → from entry first ≡ got s → (entry ≡ meant.singleDeclaration → length s.table.declarations ≤ 1) → meant.parse entry x m ≡ got s.table
+  unfolding meant.parse translation_unit all_declarations in_text ◌>>=◌
+  parse-got meant.wholeHeader s e p = rw e
+  parse-got meant.singleDeclaration s e p = one_bind s e ∙ le_yes (length s.table.declarations) 1 _ _ (p refl)
 
-  one-many : (s : State) → lone_from first ≡ got s → 1 < length s.table.declarations → meant.parse meant.singleDeclaration x m ≡ refused not_one_declaration 0
-  one-many s e p = one_bind s e ∙ le_no (length s.table.declarations) 1 _ _ p
+  parse-many : (entry : meant.Entry) (s : State) → from entry first ≡ got s → entry ≡ meant.singleDeclaration → 1 < length s.table.declarations → meant.parse entry x m ≡ refused not_one_declaration 0
+  parse-many meant.wholeHeader s e i p = absurd cc
+  parse-many meant.singleDeclaration s e i p = one_bind s e ∙ le_no (length s.table.declarations) 1 _ _ p
 
-  one_no : (n i : ℕ) → lone_from first ≡ refused n i → meant.parse meant.singleDeclaration x m ≡ refused n (here x i)
-  unfolding meant.parse one_declaration lone_declaration in_text ◌>>=◌
-  one_no n i e = rw e
-
-  module _ {w d w' d' : List ℕ} {v v' : List ℤ} (e : Encodes new_table first_cursor w d v) where
-    pub header : (r₀ r : Result Cursor Refusal) → answer r ≡ in_text x (answer r₀) → Moves whole_from first_cursor w d v (reply_alone r₀) w' d' v' → Parses (meant.parse meant.wholeHeader x m) (answer r) w' d' v'
+  module _ {w d w' d' : List ℕ} {v v' : List ℤ} (e : Encodes new_table first_cursor w d v) (entry : meant.Entry) where
+    -- the counts, once the tokens were read
+    counted : (r₀ : Result Cursor Refusal) (c : Cursor) → got c ≡ in_text x (answer r₀) → Moves (from entry) first_cursor w d v (reply_alone r₀) w' d' v' → Moves (from entry) first_cursor w d v (ok c none) w' d' v'
     unfolding in_text
-    header (Ok c) r q g = let h = went (g.run new_table e) refl in done h.table c (header_got _ h.says) q h.holds
-    header (Err y) r q g = let f = (g.run new_table e).ends in stop (number_of y.reason) (here x y.at) (header_no _ _ (said f refl)) q (leaves f refl)
+    counted (Ok c₀) c q g = let i : c₀ ≡ c = cc in rw i at g
+    counted (Err y) c q g = let o : ◌≡◌ {A = ℕ} 0 1 = cc in absurd (omega arith)
 
-    -- one declaration: the counts, once it was read
-    lone : (r₀ : Result Cursor Refusal) (c : Cursor) → got c ≡ in_text x (answer r₀) → Moves lone_from first_cursor w d v (reply_alone r₀) w' d' v' → Moves lone_from first_cursor w d v (ok c none) w' d' v'
+    module _ (r₀ : Result Cursor Refusal) (g : Moves (from entry) first_cursor w d v (reply_alone r₀) w' d' v') where
+      pub parsed : (c : Cursor) → got c ≡ in_text x (answer r₀) → (entry ≡ meant.singleDeclaration → c.declarations ≤ 1) → Parses (meant.parse entry x m) (got c) w' d' v'
+      parsed c q p = let h = went ((counted r₀ c q g).run new_table e) refl in done h.table c (parse-got entry _ h.says (λ i. let l = p i in omega (arith, h.holds.counts.declarations))) refl h.holds
+
+      pub one_too_many : (c : Cursor) → got c ≡ in_text x (answer r₀) → entry ≡ meant.singleDeclaration → 1 < c.declarations → Parses (meant.parse entry x m) (refused 24 0) w' d' v'
+      one_too_many c q i p =
+          let h = went ((counted r₀ c q g).run new_table e) refl in
+          stop 24 0 (parse-many entry _ h.says i (omega (arith, h.holds.counts.declarations))) refl (left h.holds)
+
+    pub unread : (r₀ : Result Cursor Refusal) (z : Refusal) → answer (Err z) ≡ in_text x (answer r₀) → Moves (from entry) first_cursor w d v (reply_alone r₀) w' d' v' → Parses (meant.parse entry x m) (answer (Err z)) w' d' v'
     unfolding in_text
-    lone (Ok c₀) c q g = let i : c₀ ≡ c = cc in rw i at g
-    lone (Err y) c q g = let o : ◌≡◌ {A = ℕ} 0 1 = cc in absurd (omega arith)
-
-    module _ (r₀ : Result Cursor Refusal) (g : Moves lone_from first_cursor w d v (reply_alone r₀) w' d' v') where
-      pub one-done : (c : Cursor) → got c ≡ in_text x (answer r₀) → c.declarations ≤ 1 → Parses (meant.parse meant.singleDeclaration x m) (got c) w' d' v'
-      one-done c q p = let h = went ((lone r₀ c q g).run new_table e) refl in done h.table c (one-got _ h.says (omega (arith, h.holds.counts.declarations))) refl h.holds
-
-      pub one_too_many : (c : Cursor) → got c ≡ in_text x (answer r₀) → 1 < c.declarations → Parses (meant.parse meant.singleDeclaration x m) (refused 24 0) w' d' v'
-      one_too_many c q p = let h = went ((lone r₀ c q g).run new_table e) refl in stop 24 0 (one-many _ h.says (omega (arith, h.holds.counts.declarations))) refl (left h.holds)
-
-    pub one-refused : (r₀ : Result Cursor Refusal) (z : Refusal) → answer (Err z) ≡ in_text x (answer r₀) → Moves lone_from first_cursor w d v (reply_alone r₀) w' d' v' → Parses (meant.parse meant.singleDeclaration x m) (answer (Err z)) w' d' v'
-    unfolding in_text
-    one-refused (Ok c) z q g = let o : ◌≡◌ {A = ℕ} 0 1 = cc in absurd (omega arith)
-    one-refused (Err y) z q g = let f = (g.run new_table e).ends in stop (number_of y.reason) (here x y.at) (one_no _ _ (said f refl)) q (leaves f refl)
+    unread (Ok c) z q g = let o : ◌≡◌ {A = ℕ} 0 1 = cc in absurd (omega arith)
+    unread (Err y) z q g = let f = (g.run new_table e).ends in stop (number_of y.reason) (here x y.at) (parse_no entry _ _ (said f refl)) q (leaves f refl)
 
 -- ---- what was parsed, with its names
 

@@ -3,7 +3,7 @@ use mathlib.Core.Path.{◌≡◌, refl, sym, ap, ◌∙◌}
 use mathlib.Core.Bool.{true, false, ◌&&◌, and-eq-true_iff}
 use mathlib.Core.Option.{Option, none, some}
 use mathlib.Core.List.{List, ◌++◌}
-use Prim.Native.Nat.{ℕ, zero, ◌+◌, ◌-◌, ◌*◌, ◌≤◌, ◌<◌}
+use Prim.Native.Nat.{ℕ, ◌+◌, ◌-◌, ◌*◌, ◌≤◌}
 use native.Mathlib.Omega.{arith}
 use lib.Dec.{leb}
 use lib.IntN.{ℤ}
@@ -40,7 +40,7 @@ use Rattle.entry_points.specs.declared.Counts.{Counts}
 use Rattle.entry_points.specs.declared.Rejection.{Rejection}
 use Rattle.clearing.specs.Slices.{lent}
 use Rattle.entry_points.proofs.Front.{fresh-front, front_zeros, front-filled}
-use Rattle.entry_points.specs.Answers.{lexed, first_cursor, Read, read_tokens, Scratch, FitsIf, Asked, Cleared, as_long, Told, Accepted, Rejected, told, rejected_at, out, shown, answered, Answers}
+use Rattle.entry_points.specs.Answers.{lexed, first_cursor, Read, read_tokens, Scratch, FitsIf, Cleared, as_long, Told, Accepted, Rejected, told, rejected_at, out, shown, answered, Answers}
 use Rattle.entry_points.specs.Answers as answers
 
 -- ---- the tokens of a text
@@ -79,17 +79,6 @@ module _ (text : Bytes) {ks ps ns : List ℕ} where
         places = padded-there (length ps) count _ _ t.places l;
         numbers = padded-there (length ns) count _ _ t.numbers lo;
       }
-
--- what a text asks for
-pub asks_own : (n : ℕ) → Asked n n
-asks_own n = record { most = omega arith; does = record { run = λ h. omega arith } }
-
-module _ {n asked : ℕ} (h : Asked n asked) where
-  pub asks_less : max_text < asked → (less : ℕ) → less ≤ asked → Asked n less
-  asks_less q less p = let m = h.most in record { most = omega arith; does = record { run = λ l. absurd (omega arith) } }
-
-  pub within : (size : ℕ) → asked ≤ size → FitsIf n size
-  within size q = record { run = λ l. let m = h.does.run l in omega arith }
 
 -- how many heads there are at the most
 pub few_heads : {n : ℕ} → HeadCount n → n ≤ 4096

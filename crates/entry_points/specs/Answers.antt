@@ -87,11 +87,6 @@ pub record Scratch (text : Bytes) (ks ps ns ls : List ℕ) (heads : ℕ) : Type 
 pub record FitsIf (n size : ℕ) : Type 0 where
   pub run : n ≤ max_text → n ≤ size
 
--- a length of scratch to ask for: that of the text, or any lesser one where the text is too long
-pub record Asked (n asked : ℕ) : Type 0 where
-  pub most : asked ≤ n
-  pub does : FitsIf n asked
-
 -- ---- lent slices of any length
 
 -- all zero

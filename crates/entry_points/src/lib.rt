@@ -9,26 +9,33 @@ ghost use Rattle.definition.specs.Table.{new_table};
 ghost use Rattle.model.specs.Meaning.{model};
 ghost use Rattle.table.specs.Held.{Encodes};
 ghost use Rattle.definition_laws.specs.Columns.{Columns};
+ghost use Rattle.encoding.specs.Kinds.{kind_numbers};
+ghost use Rattle.entry_points.specs.Lexed.{lexed_of};
 ghost use Rattle.name_table.specs.Striking.{PlacesBelow};
 ghost use Rattle.spellings.specs.Chain.{HeadCount};
 ghost use Rattle.clearing.specs.Slices.{lent};
 ghost use Rattle.definition.specs.Lent.{long_enough};
 ghost use Rattle.entry_points.specs.Walking.{Walkable};
-ghost use Rattle.entry_points.specs.Answers.{entry_of, lexed, first_cursor, counts_from, Parses, Read, Reads, Scratch, FitsIf, Asked, Cleared, as_long, told, rejected_at, out, answered, Answers};
+ghost use Rattle.entry_points.specs.Answers.{entry_of, lexed, first_cursor, counts_from, Parses, Read, Reads, Scratch, FitsIf, Cleared, as_long, told, rejected_at, out, answered, Answers};
 ghost use Rattle.encoding.specs.Refusals.{number_of, answer};
 
+pub mod lexed;
+
+use crate::lexed::Lexed;
 use clearing::clear;
 use declarations::{declarations, lone_declaration};
 use encoding::refusals::{Reason, Refusal};
 use encoding::regions::{SIGNEDS, WIDES, WORDS};
-use encoding::token_kinds::END;
+use encoding::token_kinds::TokenKind;
 use erasing::clear_left;
-use lexer::lex;
+use lexer::{MAX_LINKS, lex};
 use model::Model;
 use name_table::fill_names;
+use naming::Tokens;
+use parser::parser::Parser;
 use scan::line_column;
 use spellings::{FEW_HEADS, HEADS, LINKS};
-use table::{Cursor, kind_at};
+use table::{Cursor, word_at};
 
 // A text is read in scratch of the first of these lengths that is not less than its own: all of it has to be cleared.
 const TINY_TEXT: usize = 64;
@@ -39,6 +46,8 @@ const MIDDLE_TEXT: usize = 1536;
 
 const LARGE_TEXT: usize = 7168;
 
+const TOO_LONG: usize = Model::MAX_TEXT + 1;
+
 const TINY_LINKS: usize = FEW_HEADS + LINKS * TINY_TEXT;
 
 const SMALL_LINKS: usize = FEW_HEADS + LINKS * SMALL_TEXT;
@@ -47,9 +56,7 @@ const MIDDLE_LINKS: usize = FEW_HEADS + LINKS * MIDDLE_TEXT;
 
 const LARGE_LINKS: usize = HEADS + LINKS * LARGE_TEXT;
 
-const LONGEST_LINKS: usize = HEADS + LINKS * Model::MAX_TEXT;
-
-// How many there are of each.
+// How many of each an accepted text has.
 #[derive(Clone, Copy)]
 pub struct Counts {
     pub rows: usize,
@@ -80,16 +87,6 @@ pub enum Entry {
 
 // ---- tokens
 
-// The offset of a token, the text's end past the last.
-fn offset_of(kinds: &[u32], places: &[u32], numbers: &[u64], end: usize, at: usize) -> usize
-    ensures { result ≡ here (lexed kinds.now places.now numbers.now end) at }
-{
-    if kind_at(kinds, at) == END {
-        return end;
-    }
-    kind_at(places, at) as usize
-}
-
 fn first_cursor() -> Cursor
     ensures { result ≡ first_cursor }
 {
@@ -103,86 +100,59 @@ fn first_cursor() -> Cursor
     }
 }
 
-// What was read of tokens; a refusal, at its token's offset in the text.
-#[tactic(auto, using(crate::proofs::Parsing::in_text_by))]
-fn in_text(
-    kinds: &[u32],
-    places: &[u32],
-    numbers: &[u64],
-    end: usize,
-    read: Result<Cursor, Refusal>,
-) -> Result<Cursor, Refusal>
-    ensures { answer result ≡ in_text (lexed kinds.now places.now numbers.now end) (answer read) }
-{
-    read.map_err(|e| Refusal {
-        reason: e.reason,
-        at: offset_of(kinds, places, numbers, end, e.at),
-    })
-}
-
-// A whole header; a refusal names an offset.
-fn parse_header(
-    kinds: &[u32],
-    places: &[u32],
-    numbers: &[u64],
-    end: usize,
-    m: Model,
-    w: &mut [u32],
-    d: &mut [u64],
-    v: &mut [i64],
-) -> Result<Cursor, Refusal>
-    requires columns { Columns kinds.now places.now numbers.now }
-    requires encodes { Encodes new_table first_cursor w.old d.old v.old }
-    ensures { Parses (parse (entry_of Entry.WholeHeader) (lexed kinds.now places.now numbers.now end) (model m)) (answer result) w.new d.new v.new }
-{
-    let read = declarations(kinds, numbers, w, d, v, first_cursor(), m);
-    in_text(kinds, places, numbers, end, read)
-}
-
-// One declaration, of one name at most.
-fn parse_declaration(
-    kinds: &[u32],
-    places: &[u32],
-    numbers: &[u64],
-    end: usize,
-    m: Model,
-    w: &mut [u32],
-    d: &mut [u64],
-    v: &mut [i64],
-) -> Result<Cursor, Refusal>
-    requires columns { Columns kinds.now places.now numbers.now }
-    requires encodes { Encodes new_table first_cursor w.old d.old v.old }
-    ensures { Parses (parse (entry_of Entry.SingleDeclaration) (lexed kinds.now places.now numbers.now end) (model m)) (answer result) w.new d.new v.new }
-{
-    let read = lone_declaration(kinds, numbers, w, d, v, first_cursor(), m);
-    let c = in_text(kinds, places, numbers, end, read)?;
-    if c.declarations <= 1 {
-        return Ok(c);
+impl Lexed<'_> {
+    // The offset of a token, the text's end past the last.
+    fn offset_of(&self, at: usize) -> usize
+        ensures { result ≡ here (lexed_of self.now) at }
+    {
+        if self.tokens.kind(at) == TokenKind::End {
+            return self.end;
+        }
+        word_at(self.places, at) as usize
     }
-    Err(Refusal {
-        reason: Reason::NotOneDeclaration,
-        at: 0,
-    })
+
+    // What was read of the tokens; a refusal, at its token's offset in the text.
+    #[tactic(auto, unfolding(definition::specs::Reader::in_text))]
+    fn in_text(&self, read: Result<Cursor, Refusal>) -> Result<Cursor, Refusal>
+        ensures { answer result ≡ in_text (lexed_of self.now) (answer read) }
+    {
+        match read {
+            Ok(c) => Ok(c),
+            Err(e) => Err(Refusal {
+                reason: e.reason,
+                at: self.offset_of(e.at),
+            }),
+        }
+    }
 }
 
+// What an entry reads of tokens; a refusal names an offset. One declaration may say one name at most.
 fn parse_tokens(
     entry: Entry,
-    kinds: &[u32],
-    places: &[u32],
-    numbers: &[u64],
-    end: usize,
+    lexed: &Lexed<'_>,
     m: Model,
     w: &mut [u32],
     d: &mut [u64],
     v: &mut [i64],
 ) -> Result<Cursor, Refusal>
-    requires columns { Columns kinds.now places.now numbers.now }
-    requires encodes { Encodes new_table first_cursor w.old d.old v.old }
-    ensures { Parses (parse (entry_of entry) (lexed kinds.now places.now numbers.now end) (model m)) (answer result) w.new d.new v.new }
+    requires { Encodes new_table first_cursor w.old d.old v.old }
+    ensures { Parses (parse (entry_of entry) (lexed_of lexed.now) (model m)) (answer result) w.new d.new v.new }
 {
+    let parser = Parser {
+        tokens: lexed.tokens,
+        model: m,
+    };
+    let read = match entry {
+        Entry::WholeHeader => declarations(&parser, w, d, v, first_cursor()),
+        Entry::SingleDeclaration => lone_declaration(&parser, w, d, v, first_cursor()),
+    };
+    let c = lexed.in_text(read)?;
     match entry {
-        Entry::WholeHeader => parse_header(kinds, places, numbers, end, m, w, d, v),
-        Entry::SingleDeclaration => parse_declaration(kinds, places, numbers, end, m, w, d, v),
+        Entry::SingleDeclaration if 1 < c.declarations => Err(Refusal {
+            reason: Reason::NotOneDeclaration,
+            at: 0,
+        }),
+        _ => Ok(c),
     }
 }
 
@@ -202,11 +172,11 @@ fn counted(c: Cursor, names: usize) -> Counts
 // ---- texts
 
 // The tokens of a text read into a new table, with its names. Where they are refused, what was read is taken out again. The list of names is scratch.
-fn read_tokens(
+fn read_tokens<'x>(
     entry: Entry,
-    kinds: &[u32],
-    places: &[u32],
-    numbers: &[u64],
+    kinds: &'x [TokenKind],
+    places: &'x [u32],
+    numbers: &'x [u64],
     listed: &mut [u16],
     end: usize,
     m: Model,
@@ -214,12 +184,17 @@ fn read_tokens(
     d: &mut [u64],
     v: &mut [i64],
 ) -> Result<Counts, Refusal>
-    requires columns { Columns kinds.now places.now numbers.now }
+    requires columns { Columns (kind_numbers kinds.now) places.now numbers.now }
     requires places_below { PlacesBelow places.now (length listed.old) }
     requires encodes { Encodes new_table first_cursor w.old d.old v.old }
-    ensures { Reads (entry_of entry) (lexed kinds.now places.now numbers.now end) (model m) w.old d.old v.old (answer result) w.new d.new v.new }
+    ensures { Reads (entry_of entry) (lexed (kind_numbers kinds.now) places.now numbers.now end) (model m) w.old d.old v.old (answer result) w.new d.new v.new }
 {
-    match parse_tokens(entry, kinds, places, numbers, end, m, w, d, v) {
+    let lexed = Lexed {
+        tokens: Tokens { kinds, numbers },
+        places,
+        end,
+    };
+    match parse_tokens(entry, &lexed, m, w, d, v) {
         Ok(c) => {
             let names = fill_names(kinds, places, numbers, listed, w, c);
             Ok(counted(c, names))
@@ -235,7 +210,7 @@ fn read_tokens(
 fn read_columns(
     entry: Entry,
     text: &[u8],
-    kinds: &mut [u32],
+    kinds: &mut [TokenKind],
     places: &mut [u32],
     numbers: &mut [u64],
     links: &mut [u16],
@@ -245,7 +220,7 @@ fn read_columns(
     d: &mut [u64],
     v: &mut [i64],
 ) -> Result<Counts, Refusal>
-    requires scratch { Scratch text.now kinds.old places.old numbers.old links.old heads }
+    requires scratch { Scratch text.now (kind_numbers kinds.old) places.old numbers.old links.old heads }
     requires encodes { Encodes new_table first_cursor w.old d.old v.old }
     ensures { Read (read_with (model m) (entry_of entry) text.now) w.old d.old v.old (answer result) w.new d.new v.new }
 {
@@ -264,7 +239,8 @@ fn read_columns(
     )
 }
 
-// In scratch of a length, with links for so many heads.
+// In scratch of one length, with the links for that many heads. Not inlined: else the scratch of every length would lie in one frame, and each call would touch its pages.
+#[inline(never)]
 fn read_in<const LENGTH: usize, const LINKED: usize>(
     entry: Entry,
     text: &[u8],
@@ -281,7 +257,7 @@ fn read_in<const LENGTH: usize, const LINKED: usize>(
     requires encodes { Encodes new_table first_cursor w.old d.old v.old }
     ensures { Read (read_with (model m) (entry_of entry) text.now) w.old d.old v.old (answer result) w.new d.new v.new }
 {
-    let mut kinds = [0u32; LENGTH];
+    let mut kinds = [TokenKind::End; LENGTH];
     let mut places = [0u32; LENGTH];
     let mut numbers = [0u64; LENGTH];
     let mut links = [0u16; LINKED];
@@ -300,37 +276,27 @@ fn read_in<const LENGTH: usize, const LINKED: usize>(
     )
 }
 
-// In the least scratch that does. Any does for a text that is too long: it is refused before it is cut. As this calls itself, the compiler takes no large frame into its own;
-// else all scratch would lie in one frame, and every call would touch its pages.
-fn read_asked(
+// In the least scratch that does. A text that is too long is refused before it is cut, so any does for it.
+fn read_text(
     entry: Entry,
     text: &[u8],
-    asked: usize,
     m: Model,
     w: &mut [u32],
     d: &mut [u64],
     v: &mut [i64],
 ) -> Result<Counts, Refusal>
-    requires asked { Asked (length text.now) asked }
-    requires encodes { Encodes new_table first_cursor w.old d.old v.old }
+    requires { Encodes new_table first_cursor w.old d.old v.old }
     ensures { Read (read_with (model m) (entry_of entry) text.now) w.old d.old v.old (answer result) w.new d.new v.new }
 {
-    if Model::MAX_TEXT < asked {
-        return read_asked(entry, text, asked / Model::MAX_TEXT, m, w, d, v);
+    match text.len() {
+        ..=TINY_TEXT | TOO_LONG.. => {
+            read_in::<TINY_TEXT, TINY_LINKS>(entry, text, FEW_HEADS, m, w, d, v)
+        }
+        ..=SMALL_TEXT => read_in::<SMALL_TEXT, SMALL_LINKS>(entry, text, FEW_HEADS, m, w, d, v),
+        ..=MIDDLE_TEXT => read_in::<MIDDLE_TEXT, MIDDLE_LINKS>(entry, text, FEW_HEADS, m, w, d, v),
+        ..=LARGE_TEXT => read_in::<LARGE_TEXT, LARGE_LINKS>(entry, text, HEADS, m, w, d, v),
+        _ => read_in::<{ Model::MAX_TEXT }, MAX_LINKS>(entry, text, HEADS, m, w, d, v),
     }
-    if asked <= TINY_TEXT {
-        return read_in::<TINY_TEXT, TINY_LINKS>(entry, text, FEW_HEADS, m, w, d, v);
-    }
-    if asked <= SMALL_TEXT {
-        return read_in::<SMALL_TEXT, SMALL_LINKS>(entry, text, FEW_HEADS, m, w, d, v);
-    }
-    if asked <= MIDDLE_TEXT {
-        return read_in::<MIDDLE_TEXT, MIDDLE_LINKS>(entry, text, FEW_HEADS, m, w, d, v);
-    }
-    if asked <= LARGE_TEXT {
-        return read_in::<LARGE_TEXT, LARGE_LINKS>(entry, text, HEADS, m, w, d, v);
-    }
-    read_in::<{ Model::MAX_TEXT }, LONGEST_LINKS>(entry, text, HEADS, m, w, d, v)
 }
 
 // ---- the entries
@@ -379,10 +345,9 @@ pub fn outcome_in_zeros(
     if !long_enough(w.len(), d.len(), v.len()) {
         return Err(reject(text, bad_call));
     }
-    let r = read_asked(
+    let r = read_text(
         entry,
         text,
-        text.len(),
         m,
         &mut w[..WORDS],
         &mut d[..WIDES],

@@ -1,5 +1,8 @@
 -- The log stands in no slice, a body's values are at least those before it, and a level's enumeration. Assumes nothing.
-use mathlib.Core.Path.{◌≡◌, refl, ap, sym}
+use denote.Enum.Bare.{same_true}
+use borrow.Author.Rules.{rules}
+use borrow.Author.Tests.{eq-eqb}
+use mathlib.Core.Path.{◌≡◌, refl, ap, sym, ◌∙◌}
 use mathlib.Core.List.{List, [], ◌∷◌}
 use Prim.Native.Nat.{ℕ, zero, suc, ◌-◌, ◌≤◌}
 use native.Mathlib.Omega.{arith}
@@ -27,8 +30,11 @@ use Rattle.table.specs.declared.Cursor.{Cursor}
 use Rattle.table.proofs.Branch.{by, via, halt}
 use Rattle.table.proofs.Shown.{went}
 use Rattle.table.proofs.Shown as Shown
-use Rattle.body_rows.specs.Bodies.{span}
 use Rattle.body_rows.proofs.Logs.{logged-on}
+use Rattle.encoding.proofs.TokenKinds.{same_kind}
+use Rattle.encoding.specs.Kinds.{kind_number}
+use Rattle.encoding.specs.contracts.token_kinds.TokenKind.{the_type}
+use Rattle.encoding.specs.declared.token_kinds.TokenKind.{TokenKind}
 use Rattle.enumerators.specs.Doing.{enumerators_here}
 
 -- a call, noted in the log: its answer is returned as it is
@@ -74,17 +80,21 @@ more-values {c} ts m room g h q =
 
 -- a body's values are those after the ones that there were
 pub closes : {e : Cursor} {w d w' d' : List ℕ} {v v' : List ℤ} {r : Reply ℕ} {t₁ : Table} {first last bytes n : ℕ} (m : Model) (name : ℕ)
-    → first ≡ n → bytes ≡ enum_bytes m (drop first t₁.values) → last ≡ length t₁.values → Does (close_enum name bytes (span first (last - first))) e w d v r w' d' v' → Encodes t₁ e w d v
+    → first ≡ n → bytes ≡ enum_bytes m (drop first t₁.values) → last ≡ length t₁.values → Does (close_enum name bytes (record { first = first; count = last - first })) e w d v r w' d' v' → Encodes t₁ e w d v
     → Shows both (close_enum name (enum_bytes m (drop n t₁.values)) (values_since n t₁) (state e t₁)) r w' d' v'
 closes {e} {t₁ = t₁} {first} {last} {bytes} m name p q z g h =
     by (ap (λ (i : ℕ). close_enum name (enum_bytes m (drop i t₁.values)) (values_since i t₁) (state e t₁)) (sym p))
     (by (ap (λ (b : ℕ). close_enum name b (values_since first t₁) (state e t₁)) (sym q))
-    (by (ap (λ (k : ℕ). close_enum name bytes (span first (k - first)) (state e t₁)) (sym z)) (g.run t₁ h)))
+    (by (ap (λ (k : ℕ). close_enum name bytes (record { first = first; count = k - first }) (state e t₁)) (sym z)) (g.run t₁ h)))
 
 -- the tag's name as it was read
 pub tagged : {Q : Answer (ℕ × State) → Type 0} {at n : ℕ} (ts : Tokens) (m : Model) (next : Levels) (s : State) → Peek ts.numbers at n → Ends Q (after_tag ts m next n at s)
     → Ends Q (after_tag ts m next (number_at ts at) at s)
 tagged {at = at} ts m next s p h = by (ap (λ (z : ℕ). after_tag ts m next z at s) (sym p.is)) h
+
+-- a kind that is not j has another number
+pub another : (k j : TokenKind) → (k ≡ j → ⊥) → kind_number k ≡ kind_number j → ⊥
+another k j n e = n (same_true the_type (search rules) k j (same_kind k j ∙ eq-eqb _ _ e))
 
 -- ---- a level's enumeration: refused where no level is left
 

@@ -22,11 +22,10 @@ use Rattle.std.specs.Prelude.{Option, Some, None, Result, Ok, Err}
 use Rattle.std.specs.Option.{ok_or}
 use Rattle.enumerator_values.specs.Pending.{pending}
 use Rattle.lemmas.proofs.Branch.{yes}
-use Rattle.constants.proofs.Steps.{there}
-
-name-there : {k : ℕ} → is_name k ≡ true → k ≡ 0 → ⊥
-unfolding is_name
-name-there {k} e z = let f : is_name 0 ≡ true = sym (ap is_name z) ∙ e in let o : ◌≡◌ {A = ℕ} 0 1 = cc in omega arith
+use Rattle.constants.proofs.Steps.{name-there}
+use Rattle.encoding.specs.Kinds.{kind_numbers}
+use Rattle.encoding.specs.declared.token_kinds.TokenKind.{TokenKind}
+use Rattle.table.proofs.Steps as Steps
 
 -- the test of a token that was read
 module _ {ks : List ℕ} {i k : ℕ} {b : Bool} (p : Peek ks i k) (e : b ≡ is_name k) where
@@ -36,8 +35,9 @@ module _ {ks : List ℕ} {i k : ℕ} {b : Bool} (p : Peek ks i k) (e : b ≡ is_
   pub a-name : not b ≡ false → is_name (get_or ks i 0) ≡ true
   a-name q = ap is_name (sym p.is) ∙ (sym e ∙ not-false b q)
 
-  pub inside : not b ≡ false → i < length ks
-  inside q = there p (name-there (sym e ∙ not-false b q))
+-- a name is there
+pub inside : (ks : List TokenKind) {i k : ℕ} {b : Bool} → Peek (kind_numbers ks) i k → b ≡ is_name k → not b ≡ false → i < length ks
+inside ks p e q = Steps.inside ks p (name-there (sym e ∙ not-false _ q))
 
 -- the number after the greatest, and a number of 64 bits
 pub past-range : (at : ℕ) → ranged at (pos above_range) ≡ refused out_of_range at

@@ -37,10 +37,9 @@ fn clear_names(w: &mut [u32])
 pub fn clear_index(w: &mut [u32])
     ensures { IndexCleared w.old w.new }
 {
-    if w.len() != WORDS {
-        return;
+    if w.len() == WORDS {
+        clear_names(w);
     }
-    clear_names(w);
 }
 
 // ---- what a refused text left
@@ -102,13 +101,7 @@ fn clear_rest(w: &mut [u32])
 pub fn clear_left(w: &mut [u32], d: &mut [u64], v: &mut [i64])
     ensures { Erased w.old d.old v.old w.new d.new v.new }
 {
-    if w.len() != WORDS {
-        return;
-    }
-    if d.len() != WIDES {
-        return;
-    }
-    if v.len() != SIGNEDS {
+    if w.len() != WORDS || d.len() != WIDES || v.len() != SIGNEDS {
         return;
     }
     clear_rows(w, d);

@@ -1,14 +1,9 @@
 -- A member that is read, in the definition's terms.
-use Rattle.std.proofs.Math.Option.{Option, none, some}
-use Rattle.std.specs.Prelude.{ℕ, zero, suc}
+use Rattle.std.proofs.Math.Option.{Option}
+use Rattle.std.specs.Prelude.{ℕ}
 use Rattle.definition.specs.Answer.{Answer, got, ◌>>=◌}
 use Rattle.definition.specs.Table.{State, push_member}
 use Rattle.definition.specs.Composite.{fresh}
-
--- a width by its number: 0 for a plain member, else 1 more than the width
-abbrev pub width_in : ℕ → Option ℕ
-width_in zero = none
-width_in (suc w) = some w
 
 -- the next member of a body
 abbrev pub field_pushed : ℕ → ℕ → ℕ → Option ℕ → ℕ → State → Answer State

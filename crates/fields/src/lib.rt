@@ -8,8 +8,11 @@ ghost use Rattle.definition.specs.Grammar.{Levels};
 ghost use Rattle.definition.specs.Composite.{anonymous_member, is_composite};
 ghost use Rattle.table.specs.Held.{Held};
 ghost use Rattle.table.specs.Reply.{reply_alone, Moves};
-ghost use Rattle.fields.specs.Fields.{width_in, field_pushed};
+ghost use Rattle.table.specs.Widths.{Storable};
+ghost use Rattle.lemmas.specs.Options.{option};
+ghost use Rattle.fields.specs.Fields.{field_pushed};
 
+use encoding::names::NO_NAME;
 use encoding::refusals::{Reason, Refusal};
 use encoding::regions::OPEN_LIST;
 use encoding::row_kinds::{STRUCT_KIND, UNION_KIND};
@@ -23,7 +26,7 @@ fn is_composite(kind: u32) -> bool
     kind == STRUCT_KIND || kind == UNION_KIND
 }
 
-// The next member of the body whose first entry is `first`; `at` is its token. The width is 0 for a plain member, else 1 more than it.
+// The next member of the body whose first entry is `first`, with its width where it is a bit-field; `at` is its token.
 pub fn push_field(
     w: &mut [u32],
     d: &mut [u64],
@@ -32,11 +35,11 @@ pub fn push_field(
     first: u32,
     ty: u32,
     name: u32,
-    width: u32,
+    width: Option<u32>,
     at: usize,
 ) -> Result<Cursor, Refusal>
     requires { Held c w.old d.old v.old × (first ≤ max_members) }
-    ensures { Moves (field_pushed first ty name (width_in width) at) c w.old d.old v.old (reply_alone result) w.new d.new v.new }
+    ensures { Storable width → Moves (field_pushed first ty name (option width) at) c w.old d.old v.old (reply_alone result) w.new d.new v.new }
 {
     let (e, _) = push_member(w, d, v, c, OPEN_LIST + first, ty, name, width, at as u64)?;
     Ok(e)
@@ -61,5 +64,5 @@ pub fn anonymous_member(
             at,
         });
     }
-    push_field(w, d, v, c, first, b, 0, 0, at)
+    push_field(w, d, v, c, first, b, NO_NAME, None, at)
 }

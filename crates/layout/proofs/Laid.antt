@@ -1,20 +1,21 @@
 -- The members of a body, laid out one after the other. Assumes nothing.
 use mathlib.Core.Path.{◌≡◌, refl, sym, ap, ◌∙◌}
 use mathlib.Core.Bool.{Bool, true, false, ◌&&◌}
-use mathlib.Core.Option.{Option}
+use mathlib.Core.Option as maybe
 use mathlib.Core.List.{List, [], ◌∷◌, ◌++◌, append_assoc}
-use Prim.Native.Nat.{ℕ, ◌+◌, ◌^◌, ◌<◌, ◌≤◌, max}
+use Prim.Native.Nat.{ℕ, zero, suc, ◌+◌, ◌-◌, ◌^◌, ◌<◌, ◌≤◌, max}
 use native.Mathlib.Omega.{arith}
 use lib.Dec.{eqb}
 use lib.IntN.{ℤ}
 use lib.ListN.{length, get_or, set, take, drop, length-append, take-append-drop, drop_of_length-le}
 use lib.Seq.{length-take-le, set_at, get_or_at}
 use borrow.Author.Tests.{eq-eqb, ne_eqb}
+use Rattle.std.specs.Bool.{MatchBool}
+use Rattle.std.specs.List.{AllWithin, HoldsAt, range_with_len}
+use Rattle.std.proofs.lemmas.List.FromFn.{length-range_with_len, get_or-range_with_len}
 use Rattle.definition.specs.Answer.{Answer, got, refused, ◌>>=◌}
 use Rattle.definition.specs.Refusal.{layout_overflow, unknown_size}
 use Rattle.definition.specs.Model.{Model}
-use Rattle.definition.specs.RowKind.{array_kind}
-use Rattle.definition.specs.Row.{Row, kind_of, flags_of}
 use Rattle.definition.specs.Table.{Table, Member, row_at, mark_of, with_members}
 use Rattle.definition.specs.Types.{resolve}
 use Rattle.definition.specs.Size.{size_of}
@@ -27,34 +28,41 @@ use Rattle.table.specs.Store.{member_place_set, ChangesWides}
 use Rattle.table.specs.declared.Cursor.{Cursor}
 use Rattle.table.proofs.Shown.{left}
 use Rattle.lemmas.proofs.Branch.{yes, nay, lt_yes, lt_no}
-use Rattle.lemmas.proofs.Truth.{not_first}
 use Rattle.size_align.specs.declared.Size.{Size}
 use Rattle.size_align.specs.declared.Size.TheVariants.{Known, Big, Unknown}
 use Rattle.size_align.proofs.Told.{View, unknown, known, big}
-use Rattle.layout.specs.Lays.{placed_from, Lays, done, stop}
+use Rattle.std.specs.Option.{ok_or}
+use Rattle.encoding.specs.declared.refusals.Reason.TheVariants as reasons
+use Rattle.layout_arithmetic.specs.declared.Placed.{Placed}
+use Rattle.std.specs.Prelude.{Option, Some, None, Result, Ok, Err, MatchResult, IsErrAnd}
+use Rattle.encoding.specs.Refusals.{answer}
+use Rattle.encoding.specs.declared.refusals.Refusal.{Refusal}
+use Rattle.layout_arithmetic.specs.declared.SizeError.{SizeError}
+use Rattle.layout_arithmetic.specs.Outcome.{reason_of, sized as record_sized, placed as member_placed}
+use Rattle.layout.specs.Lays.{place, placed_from, sized, Lays, done, stop}
 
 -- ---- a member's size
 
 module _ (u : Bool) (at : ℕ) where
-  pub known-size : {o : Option ℕ} {s : Size} {x : ℕ} → View o s → s ≡ Known x → got x ≡ member_size o u at
+  pub known-size : {o : maybe.Option ℕ} {s : Size} {x : ℕ} → View o s → s ≡ Known x → got x ≡ member_size o u at
   unfolding member_size within
   known-size unknown e = let y : ◌≡◌ {A = ℕ} 0 1 = cc in absurd (omega arith)
   known-size {x = x} (known z p) e = let y : z ≡ x = cc in rw y (sym (lt_yes x (2 ^ 64) _ _ (omega arith)))
   known-size (big z p) e = let y : ◌≡◌ {A = ℕ} 0 1 = cc in absurd (omega arith)
 
-  pub big-size : {o : Option ℕ} {s : Size} → View o s → s ≡ Big → refused layout_overflow at ≡ member_size o u at
+  pub big-size : {o : maybe.Option ℕ} {s : Size} → View o s → s ≡ Big → refused layout_overflow at ≡ member_size o u at
   unfolding member_size within
   big-size unknown e = let y : ◌≡◌ {A = ℕ} 0 1 = cc in absurd (omega arith)
   big-size (known z p) e = let y : ◌≡◌ {A = ℕ} 0 1 = cc in absurd (omega arith)
   big-size (big z p) e = sym (lt_no z (2 ^ 64) _ _ p)
 
-  pub no_size : {o : Option ℕ} {s : Size} → View o s → s ≡ Unknown → u ≡ false → refused unknown_size at ≡ member_size o u at
+  pub no_size : {o : maybe.Option ℕ} {s : Size} → View o s → s ≡ Unknown → u ≡ false → refused unknown_size at ≡ member_size o u at
   unfolding member_size
   no_size unknown e q = rw q
   no_size (known z p) e q = let y : ◌≡◌ {A = ℕ} 0 1 = cc in absurd (omega arith)
   no_size (big z p) e q = let y : ◌≡◌ {A = ℕ} 0 1 = cc in absurd (omega arith)
 
-  pub open_size : {o : Option ℕ} {s : Size} → View o s → s ≡ Unknown → u ≡ true → got 0 ≡ member_size o u at
+  pub open_size : {o : maybe.Option ℕ} {s : Size} → View o s → s ≡ Unknown → u ≡ true → got 0 ≡ member_size o u at
   unfolding member_size
   open_size unknown e q = rw q
   open_size (known z p) e q = let y : ◌≡◌ {A = ℕ} 0 1 = cc in absurd (omega arith)
@@ -63,18 +71,48 @@ module _ (u : Bool) (at : ℕ) where
 -- ---- entries
 
 module _ (m : Model) (t : Table) (union : Bool) (mark : ℕ) where
-  pub last_none : (es : List Member) (i : ℕ) → length es ≤ i → true ≡ is_last m t union mark (drop i es)
+  -- no entry from number i on carries the mark
+  unmarked : (es : List Member) (i : ℕ) → ((k : ℕ) → i ≤ k → k < length es → (get_or es k no_member).row ≡ mark → ⊥) → is_last m t union mark (drop i es) ≡ true
   unfolding is_last
-  last_none es i p = rw (drop_of_length-le es p)
+  unmarked [] zero h = refl
+  unmarked [] (suc i) h = refl
+  unmarked (e ∷ es) zero h = nay (eqb e.row mark) _ _ (ne_eqb _ mark (h 0 (omega arith) (omega arith))) ∙ unmarked es zero (λ k p q. h (suc k) (omega arith) (omega arith))
+  unmarked (e ∷ es) (suc i) h = unmarked es i (λ k p q. h (suc k) (omega arith) (omega arith))
 
-  module _ (es : List Member) (i : ℕ) (p : i < length es) {k : ℕ} (h : k ≡ (get_or es i no_member).row) where
-    pub last_not : k ≡ mark → false ≡ is_last m t union mark (drop i es)
-    unfolding is_last
-    last_not q = rw (drop-next es i no_member p) (sym (yes (eqb (get_or es i no_member).row mark) _ _ (eq-eqb _ mark (sym h ∙ q))))
+  -- one of the others does
+  behind-first : (e : Member) (es : List Member) → is_last m t union mark es ≡ false → is_last m t union mark (e ∷ es) ≡ false
+  unfolding is_last
+  behind-first e es h = by (eqb e.row mark) refl
+    where
+      by : (b : Bool) → eqb e.row mark ≡ b → is_last m t union mark (e ∷ es) ≡ false
+      by true f = yes (eqb e.row mark) _ _ f
+      by false f = nay (eqb e.row mark) _ _ f ∙ h
 
-    pub last_on : (k ≡ mark → ⊥) → is_last m t union mark (drop i es) ≡ is_last m t union mark (drop (i + 1) es)
-    unfolding is_last
-    last_on q = rw (drop-next es i no_member p) (nay (eqb (get_or es i no_member).row mark) _ _ (ne_eqb _ mark (λ e. q (h ∙ e))))
+  -- one of them does
+  marked : (es : List Member) (i k : ℕ) → i ≤ k → k < length es → (get_or es k no_member).row ≡ mark → is_last m t union mark (drop i es) ≡ false
+  unfolding is_last
+  marked [] i k p q h = absurd (omega arith)
+  marked (e ∷ es) zero zero p q h = yes (eqb e.row mark) _ _ (eq-eqb _ mark h)
+  marked (e ∷ es) zero (suc k) p q h = behind-first e es (marked es zero k (omega arith) (omega arith) h)
+  marked (e ∷ es) (suc i) zero p q h = absurd (omega arith)
+  marked (e ∷ es) (suc i) (suc k) p q h = marked es i k (omega arith) (omega arith) h
+
+  -- the entries from number i on, tested in turn
+  module _ (es : List Member) (i : ℕ) {ns : List ℕ} (e : ns ≡ range_with_len i (length es - i)) where
+    long : length ns ≡ length es - i
+    long = ap length e ∙ length-range_with_len i (length es - i)
+
+    number : (k : ℕ) → k < length es - i → get_or ns k 0 ≡ i + k
+    number k p = ap (λ l. get_or l k 0) e ∙ get_or-range_with_len i (length es - i) k 0 p
+
+    pub tested : (r : Bool)
+        → MatchBool r (AllWithin (λ k. (get_or es k no_member).row ≡ mark → ⊥) ns 0 (length ns))
+        ((k : ℕ) × (k < length ns) × HoldsAt (λ k. (get_or es k no_member).row ≡ mark) ns k)
+        → r ≡ is_last m t union mark (drop i es)
+    tested true n = sym (unmarked es i (λ k p q.
+        let f : get_or ns (k - i) 0 ≡ k = number (k - i) (omega arith) ∙ omega arith in
+        rw f at (n (k - i) 0 (omega arith) (omega (arith, long)))))
+    tested false (k, p, h) = sym (marked es i (i + k) (omega arith) (omega (arith, long)) (rw (number k (omega (arith, long))) at (h 0)))
 
 -- ---- the loop
 
@@ -215,17 +253,19 @@ module _ (m : Model) (t : Table) (union : Bool) (first at : ℕ) where
         go (done x es a b k) = let y : x ≡ l = cc in stop n p (laid_out ∙ (ap (λ z. z >>= with_size) a ∙ rw (y, q))) refl (left k)
         go (stop n' p' a b f) = let z : ◌≡◌ {A = ℕ} 0 1 = cc in absurd (omega arith)
 
+    -- with what was answered of the size
+    pub layout-answered : {l : Laid} (s : Result ℕ Refusal) → r ≡ ok c l → answer s ≡ record_size m t union at l → Lays t c w d v (layout m t union first at) (sized c s)
+    layout-answered (Ok n) e q = layout-sized e (sym q)
+    layout-answered (Err x) e q = layout_too_large e (sym q)
+
+-- a record's size, or its refusal at the tag
+pub size-told : (o : Result ℕ SizeError) (at : ℕ) (r : Result ℕ Refusal) → MatchResult o (λ n. r ≡ Ok n) (λ e. IsErrAnd r (λ d. d ≡ record { reason = reason_of e; at = at })) → answer r ≡ record_sized o at
+unfolding record_sized
+size-told (Ok n) at r m = rw m
+size-told (Err e) at (Ok n) m = absurd m
+size-told (Err e) at (Err d) m = rw m
+
 -- ---- a member
-
--- a row's numbers say whether it is an array without a bound
-module _ (x : Row) {k : ℕ} (h : k ≡ kind_of x) where
-  pub not_array : (k ≡ array_kind → ⊥) → false ≡ is_unsized x
-  unfolding is_unsized
-  not_array q = sym (not_first (eqb (flags_of x) 0) (ne_eqb (kind_of x) array_kind (λ e. q (h ∙ e))))
-
-  pub array_so : {f : ℕ} → f ≡ flags_of x → k ≡ array_kind → eqb f 0 ≡ is_unsized x
-  unfolding is_unsized
-  array_so g q = sym (ap (λ b. b && eqb (flags_of x) 0) (eq-eqb (kind_of x) array_kind (sym h ∙ q)) ∙ ap (λ z. eqb z 0) (sym g))
 
 -- a member of a size and a type
 abbrev sized_member : Model → Table → Bool → Member → Laid → ℕ → ℕ → Answer (Member × Laid)
@@ -240,7 +280,7 @@ module _ (m : Model) (t : Table) (union last : Bool) (e : Member) (l : Laid) {ty
   unfolding placed
   sizes_as h = ap (λ z. member_size (size_of m t z) (last && is_unsized (row_at t (resolve t z))) e.offset >>= sized_member m t union e l z) (sym y) ∙ ap (λ z. z >>= sized_member m t union e l ty) (sym q ∙ h)
 
-  pub member-refused : {n : ℕ} → b ≡ refused n e.offset → refused n e.offset ≡ placed m t union last e l
+  pub member-refused : {n p : ℕ} → b ≡ refused n p → refused n p ≡ placed m t union last e l
   unfolding ◌>>=◌
   member-refused h = sym (sizes_as h)
 
@@ -252,3 +292,9 @@ module _ (m : Model) (t : Table) (union last : Bool) (e : Member) (l : Laid) {ty
     pub in_struct_lem : union ≡ false → {x : Answer (Member × Laid)} → x ≡ in_struct e.width e s (max a 1) l → x ≡ placed m t union last e l
     unfolding ◌>>=◌
     in_struct_lem u z = sym (sizes_as h ∙ (nay union _ _ u ∙ ap (λ n. in_struct e.width e s (max n 1) l) (sym g) ∙ sym z))
+
+-- a member at its place, or the refusal at its place in the text
+pub placed-told : (o : Option Placed) (r : Result Placed Refusal) (e : Member) {at : ℕ} → at ≡ e.offset → r ≡ ok_or o (record { reason = reasons.LayoutOverflow; at = at }) → place r e ≡ member_placed o e
+unfolding member_placed
+placed-told (Some p) r e h q = rw q
+placed-told None r e h q = rw (q, h)

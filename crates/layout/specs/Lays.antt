@@ -7,8 +7,7 @@ use Rattle.definition.specs.Types.{resolve}
 use Rattle.definition.specs.Size.{size_of}
 use Rattle.definition.specs.Layout.{Laid as MeantLaid, empty_body, located, is_unsized, member_size, is_last, placed, placed_all}
 use Rattle.table.specs.Held.{InWords, Encodes, Left, member_at}
-use Rattle.encoding.specs.Refusals.{number_of}
-use Rattle.encoding.specs.declared.refusals.Reason.{Reason}
+use Rattle.encoding.specs.Refusals.{number_of, answer}
 use Rattle.encoding.specs.declared.refusals.Refusal.{Refusal}
 use Rattle.table.specs.Reply.{Reply, ok, bad}
 use Rattle.table.specs.declared.Cursor.{Cursor}
@@ -19,15 +18,10 @@ use Rattle.layout_arithmetic.specs.declared.Laid.{Laid}
 use Rattle.layout_arithmetic.specs.declared.Placed.{Placed}
 use Rattle.layout_arithmetic.specs.Outcome.{laid_of}
 
--- a member's size, or the refusal at its place
-abbrev pub bytes : Result ℕ Reason → ℕ → Answer ℕ
-bytes (Ok n) at = got n
-bytes (Err r) at = refused (number_of r) at
-
 -- a member where it stands, and what has been laid out with it
-abbrev pub place : Result Placed Reason → Member → Answer (Member × MeantLaid)
+abbrev pub place : Result Placed Refusal → Member → Answer (Member × MeantLaid)
 place (Ok p) e = got (located e p.offset p.bit, laid_of p.laid)
-place (Err r) e = refused (number_of r) e.offset
+place (Err r) e = refused (number_of r.reason) r.at
 
 -- what the members take, and the body's size: the cursor stays
 abbrev pub placing : Cursor → Result Laid Refusal → Reply MeantLaid
@@ -42,11 +36,13 @@ sized c (Err e) = bad (number_of e.reason) e.at
 pub record LastIs (mark members i : ℕ) (w : List ℕ) (r : Bool) : Type 0 where
   pub of : (m : MeantModel) (t : Table) (union : Bool) → InWords t w → members ≡ length t.members → r ≡ is_last m t union mark (drop i t.members)
 
-pub record BytesAre (m : Model) (type : ℕ) (last : Bool) (w d : List ℕ) (r : Result ℕ Reason) : Type 0 where
-  pub of : (t : Table) → InWords t w → Extents t d → (at : ℕ) → bytes r at ≡ member_size (size_of (model m) t type) (last && is_unsized (row_at t (resolve t type))) at
+pub record BytesAre (m : Model) (type : ℕ) (last : Bool) (at : ℕ) (w d : List ℕ) (r : Result ℕ Refusal) : Type 0 where
+  pub of : (t : Table) → InWords t w → Extents t d → answer r ≡ member_size (size_of (model m) t type) (last && is_unsized (row_at t (resolve t type))) at
 
-pub record PlaceIs (m : Model) (members : ℕ) (union last : Bool) (i : ℕ) (l : Laid) (w d : List ℕ) (r : Result Placed Reason) : Type 0 where
-  pub of : (t : Table) → InWords t w → Extents t d → members ≡ length t.members → place r (member_at t i) ≡ placed (model m) t union last (member_at t i) (laid_of l)
+-- The member is not laid out yet: its offset is still its place in the text.
+pub record PlaceIs (m : Model) (members : ℕ) (union last : Bool) (i : ℕ) (l : Laid) (w d : List ℕ) (r : Result Placed Refusal) : Type 0 where
+  pub of : (t : Table) → InWords t w → (x : Extents t d) → members ≡ length t.members → (member_at x.table i).offset ≡ (member_at t i).offset
+      → place r (member_at t i) ≡ placed (model m) t union last (member_at t i) (laid_of l)
 
 -- what the members of a body take, and all entries with those of the body at their places
 unfoldable pub placed_from : MeantModel → Table → Bool → ℕ → Answer (MeantLaid × List Member)

@@ -13,7 +13,7 @@ ghost use Rattle.layout.specs.Lays.{placing, sized, LastIs, BytesAre, PlaceIs, p
 
 use encoding::refusals::{Reason, Refusal};
 use encoding::row_kinds::ARRAY_KIND;
-use layout_arithmetic::{Laid, Placed, empty, in_struct, in_union, record_size};
+use layout_arithmetic::{Laid, Placed};
 use model::Model;
 use named_rows::resolve;
 use size_align::{Size, align_of, or_one, size_of};
@@ -26,46 +26,49 @@ use table::{
 fn is_last(w: &[u32], members: usize, mark: usize, i: usize) -> bool
     ensures { LastIs mark members i w.now result }
 {
-    for k in i..members {
-        if member_row(w, k) as usize == mark {
-            return false;
-        }
-    }
-    true
+    (i..members).all(|k| member_row(w, k) as usize != mark)
 }
 
 // "An unsized array is one without a bound", typedefs and qualifiers aside.
+#[tactic(auto, unfolding(definition::specs::Layout::is_unsized))]
 fn is_unsized(w: &[u32], ty: u32) -> bool
     ensures { Says (λ t. is_unsized (row_at t (resolve t ty))) w.now result }
 {
     let n = resolve(w, ty);
-    if row_kind(w, n) != ARRAY_KIND {
-        return false;
-    }
-    row_flags(w, n) == 0
+    row_kind(w, n) == ARRAY_KIND && row_flags(w, n) == 0
 }
 
-// "member size unknown, unless an unsized array is last"
-fn member_size(m: Model, w: &[u32], d: &[u64], ty: u32, last: bool) -> Result<u64, Reason>
-    ensures { BytesAre m ty last w.now d.now result }
+// "member size unknown, unless an unsized array is last"; `at` is the member's place in the text.
+fn member_size(
+    m: Model,
+    w: &[u32],
+    d: &[u64],
+    ty: u32,
+    last: bool,
+    at: usize,
+) -> Result<u64, Refusal>
+    ensures { BytesAre m ty last at w.now d.now result }
 {
-    let s = size_of(m, w, d, ty);
-    match s {
+    match size_of(m, w, d, ty) {
         Size::Known(n) => Ok(n),
-        Size::Big => Err(Reason::LayoutOverflow),
+        Size::Big => Err(Refusal {
+            reason: Reason::LayoutOverflow,
+            at,
+        }),
         Size::Unknown => {
-            if !last {
-                return Err(Reason::UnknownSize);
+            if last && is_unsized(w, ty) {
+                Ok(0)
+            } else {
+                Err(Refusal {
+                    reason: Reason::UnknownSize,
+                    at,
+                })
             }
-            if is_unsized(w, ty) {
-                return Ok(0);
-            }
-            Err(Reason::UnknownSize)
         }
     }
 }
 
-// Where member i stands after what has been laid out; `last` where no other follows.
+// Where member i stands after what has been laid out; `last` where no other follows. Until then its offset is its place in the text.
 fn place_member(
     m: Model,
     w: &[u32],
@@ -75,25 +78,21 @@ fn place_member(
     last: bool,
     i: usize,
     l: Laid,
-) -> Result<Placed, Reason>
+) -> Result<Placed, Refusal>
     ensures { PlaceIs m members union last i l w.now d.now result }
 {
+    let at = member_offset(d, i) as usize;
     let ty = member_type(w, i);
-    let size = member_size(m, w, d, ty, last)?;
+    let size = member_size(m, w, d, ty, last, at)?;
     let align = or_one(align_of(m, w, d, members, ty));
     let width = member_width(w, i);
     if union {
-        return Ok(Placed {
-            offset: 0,
-            bit: 0,
-            laid: in_union(l, width, size, align),
-        });
+        return Ok(l.in_union(width, size, align));
     }
-    let p = in_struct(l, width, size, align);
-    match p {
-        Some(at) => Ok(at),
-        None => Err(Reason::LayoutOverflow),
-    }
+    l.in_struct(width, size, align).ok_or(Refusal {
+        reason: Reason::LayoutOverflow,
+        at,
+    })
 }
 
 // The members from number `first` on that carry its mark, each stored where it stands.
@@ -111,25 +110,15 @@ fn place_all(
     let members = c.members;
     let start = first as usize;
     let mark = Model::MAX_ROWS + start;
-    let mut l = empty();
+    let mut l = Laid::empty();
     for i in start..members {
         if member_row(w, i) as usize != mark {
             continue;
         }
         let last = is_last(w, members, mark, i + 1);
-        let p = place_member(m, w, d, members, union, last, i, l);
-        match p {
-            Ok(at) => {
-                set_member_place(d, c, i, at.offset, at.bit);
-                l = at.laid;
-            }
-            Err(reason) => {
-                return Err(Refusal {
-                    reason,
-                    at: member_offset(d, i) as usize,
-                });
-            }
-        }
+        let p = place_member(m, w, d, members, union, last, i, l)?;
+        set_member_place(d, c, i, p.offset, p.bit);
+        l = p.laid;
     }
     Ok(l)
 }
@@ -148,12 +137,8 @@ pub fn layout(
     ensures { LaysOut (λ t. layout (model m) t union first at) c w.now d.old (sized c result) d.new }
 {
     let l = place_all(m, w, d, c, union, first)?;
-    let s = record_size(l, union);
-    match s {
-        Ok(n) => Ok(n),
-        Err(e) => Err(Refusal {
-            reason: Reason::from(e),
-            at,
-        }),
-    }
+    l.record_size(union).map_err(|e| Refusal {
+        reason: Reason::from(e),
+        at,
+    })
 }

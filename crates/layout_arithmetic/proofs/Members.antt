@@ -1,12 +1,11 @@
 -- Members at their places: from what the functions on numbers answered to the definition's answer. Assumes nothing.
-use mathlib.Core.Path.{◌≡◌, refl, ap}
+use mathlib.Core.Path.{◌≡◌, refl}
 use mathlib.Core.Option as maybe
-use Prim.Native.Nat.{ℕ, zero, suc, ◌+◌, ◌-◌, ◌*◌, ◌/◌, ◌^◌, ◌≤◌, ◌<◌, max}
+use Prim.Native.Nat.{ℕ, zero, suc, ◌+◌, ◌*◌, ◌/◌, ◌^◌, ◌≤◌, ◌<◌, max}
 use native.Mathlib.Omega.{arith}
 use borrow.Author.Tests.{lt-ltb, le-ltb}
 use Rattle.definition.specs.Answer.{Answer}
 use Rattle.definition.specs.Table.{Member}
-use Rattle.definition.specs.Types.{width_number}
 use Rattle.definition.specs.Layout.{within, round_up, located, advanced, plain_member, zero_field, field_start, field_at, bit_field, in_struct, in_union, widest_with}
 use Rattle.definition.specs.Layout as layout
 use Rattle.layout_arithmetic.specs.Outcome.{laid_of, exact, placed}
@@ -97,37 +96,34 @@ pub unit-end : (r : Option ℕ) (bit size : ℕ) {unit top : ℕ} → unit ≡ b
     → (at : ℕ) → exact r at ≡ within at (8 * (bit / 8 / max size 1 * max size 1 + max size 1))
 unit-end r bit size e f told = rw (← unit_in_parts bit 8 (max size 1) (omega arith), ← e, ← f) told
 
--- ---- by the width that the table holds
+-- ---- by the width
 
 module _ (e : Member) (s a : ℕ) (l : layout.Laid) where
-  pub is_plain : (w : maybe.Option ℕ) → 0 ≡ width_number w → in_struct w e s a l ≡ plain_member e s a l
+  pub is_plain : {w : maybe.Option ℕ} → maybe.none ≡ w → in_struct w e s a l ≡ plain_member e s a l
   unfolding in_struct
-  is_plain maybe.none q = refl
-  is_plain (maybe.some w) q = absurd (omega arith)
+  is_plain q = rw (← q)
 
-  pub is-zero : (w : maybe.Option ℕ) → 1 ≡ width_number w → in_struct w e s a l ≡ zero_field e a l
+  pub is-zero : {w : maybe.Option ℕ} {n : ℕ} → n ≡ 0 → maybe.some n ≡ w → in_struct w e s a l ≡ zero_field e a l
   unfolding in_struct
-  is-zero maybe.none q = absurd (omega arith)
-  is-zero (maybe.some zero) q = refl
-  is-zero (maybe.some (suc w)) q = absurd (omega arith)
+  is-zero z q = rw (← q, z)
 
-  pub is_field : (w : maybe.Option ℕ) (n : ℕ) → n ≡ width_number w → 1 < n → in_struct w e s a l ≡ bit_field e (n - 1) (8 * max s 1) a l
+  pub is_field : {w : maybe.Option ℕ} (n : ℕ) → (n ≡ 0 → ⊥) → maybe.some n ≡ w → in_struct w e s a l ≡ bit_field e n (8 * max s 1) a l
   unfolding in_struct
-  is_field maybe.none n q x = absurd (omega arith)
-  is_field (maybe.some zero) n q x = absurd (omega arith)
-  is_field (maybe.some (suc w)) n q x = let f : suc w ≡ n - 1 = omega arith in ap (λ k. bit_field e k (8 * max s 1) a l) f
-
-  pub union-zero : (w : maybe.Option ℕ) → 1 ≡ width_number w → widest_with w l.widest s ≡ l.widest
-  union-zero maybe.none q = absurd (omega arith)
-  union-zero (maybe.some zero) q = refl
-  union-zero (maybe.some (suc w)) q = absurd (omega arith)
-
-  pub union-wide : (w : maybe.Option ℕ) (n : ℕ) → n ≡ width_number w → (n ≡ 1 → ⊥) → widest_with w l.widest s ≡ max l.widest s
-  union-wide maybe.none n q x = refl
-  union-wide (maybe.some zero) n q x = absurd (omega arith)
-  union-wide (maybe.some (suc w)) n q x = refl
+  is_field zero x q = absurd (x refl)
+  is_field (suc n) x q = rw (← q)
 
   -- a member of a union
   pub union-is : (l' : Laid) → l'.taken ≡ l.taken → max l'.align 1 ≡ max l.align a → l'.widest ≡ widest_with e.width l.widest s → (located e 0 0, laid_of l') ≡ in_union e s a l
   unfolding in_union
   union-is l' x y z = rw (x, y, z)
+
+  -- one of width 0 is not wide, any other is
+  pub union-zero : {w : maybe.Option ℕ} {n : ℕ} → n ≡ 0 → maybe.some n ≡ w → widest_with w l.widest s ≡ l.widest
+  union-zero z q = rw (← q, z)
+
+  pub union-none : {w : maybe.Option ℕ} → maybe.none ≡ w → widest_with w l.widest s ≡ max l.widest s
+  union-none q = rw (← q)
+
+  pub union-wide : {w : maybe.Option ℕ} (n : ℕ) → (n ≡ 0 → ⊥) → maybe.some n ≡ w → widest_with w l.widest s ≡ max l.widest s
+  union-wide zero x q = absurd (x refl)
+  union-wide (suc n) x q = rw (← q)

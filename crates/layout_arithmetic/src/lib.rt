@@ -4,7 +4,7 @@
 ghost use Rattle.std.specs.Prelude.{◌≡◌, ℕ, ◌+◌, ◌*◌, ◌/◌, max};
 ghost use Rattle.definition.specs.Table.{Member, Table};
 ghost use Rattle.definition.specs.Model.{Model};
-ghost use Rattle.definition.specs.Types.{width_number};
+ghost use Rattle.lemmas.specs.Options.{option};
 ghost use Rattle.definition.specs.Layout.{empty_body, round_up, within, advanced, located, plain_member, zero_field, field_at, bit_field, in_struct, in_union, bytes_taken, record_size};
 ghost use Rattle.layout_arithmetic.specs.Outcome.{reason_of, laid_of, none_laid, exact, placed, sized};
 
@@ -50,17 +50,6 @@ impl From<SizeError> for Reason {
     }
 }
 
-pub fn empty() -> Laid
-    ensures value { result ≡ none_laid }
-    ensures means { laid_of result ≡ empty_body }
-{
-    Laid {
-        taken: 0,
-        align: 1,
-        widest: 0,
-    }
-}
-
 // The least multiple of k that is at least v; 0 counts 1. The library's method of this name divides twice.
 pub fn round_up(v: u64, k: u64) -> Option<u64>
     ensures { (at : ℕ) → exact result at ≡ within at (round_up v (max k 1)) }
@@ -94,43 +83,6 @@ pub fn next_place(bits: u64, align: u64) -> Option<u64>
     round_up(bytes_of(bits), align)
 }
 
-// A struct's layout after a member of an alignment that ends at a bit.
-pub fn advanced(l: Laid, end: u64, align: u64) -> Laid
-    ensures { laid_of result ≡ advanced (laid_of l) end (max align 1) }
-{
-    Laid {
-        taken: end,
-        align: l.align.max(align),
-        ..l
-    }
-}
-
-// "a plain member goes to the next multiple of its alignment"
-pub fn plain_member(l: Laid, size: u64, align: u64) -> Option<Placed>
-    ensures { (e : Member) → placed result e ≡ plain_member e size (max align 1) (laid_of l) }
-{
-    let offset = next_place(l.taken, align)?;
-    let end = end_of(offset, size)?;
-    Some(Placed {
-        offset,
-        bit: 0,
-        laid: advanced(l, end, align),
-    })
-}
-
-// "Width 0 rounds up, makes no field, and its alignment counts in the size."
-pub fn zero_field(l: Laid, align: u64) -> Option<Placed>
-    ensures { (e : Member) → placed result e ≡ zero_field e (max align 1) (laid_of l) }
-{
-    let offset = next_place(l.taken, align)?;
-    let bit = end_of(offset, 0)?;
-    Some(Placed {
-        offset,
-        bit,
-        laid: advanced(l, bit, align),
-    })
-}
-
 // The byte where the unit begins that holds a bit.
 pub fn unit_at(bit: u64, size: u64) -> u64
     ensures { result ≡ bit / (8 * max size 1) * (8 * max size 1) / 8 }
@@ -139,82 +91,135 @@ pub fn unit_at(bit: u64, size: u64) -> u64
     bit / BYTE / unit * unit
 }
 
-// A bit-field that begins at bit `first`, and at byte `offset`: "its byte offset is that of the unit holding the first bit".
-pub fn field_at(l: Laid, width: u64, align: u64, first: u64, offset: u64) -> Option<Placed>
-    ensures { (e : Member) (unit : ℕ) → offset ≡ first / unit * unit / 8 → placed result e ≡ field_at e width unit (max align 1) (laid_of l) first }
-{
-    let end = first.checked_add(width)?;
-    Some(Placed {
-        offset,
-        bit: first,
-        laid: advanced(l, end, align),
-    })
-}
+impl Laid {
+    pub fn empty() -> Self
+        ensures value { result ≡ none_laid }
+        ensures means { laid_of result ≡ empty_body }
+    {
+        Laid {
+            taken: 0,
+            align: 1,
+            widest: 0,
+        }
+    }
 
-// "A bit-field that would pass its unit (type size, at least 1 byte) moves to its alignment"
-pub fn bit_field(l: Laid, width: u64, size: u64, align: u64) -> Option<Placed>
-    ensures { (e : Member) → placed result e ≡ bit_field e width (8 * max size 1) (max align 1) (laid_of l) }
-{
-    let taken = l.taken;
-    let unit = unit_at(taken, size);
-    let unit_end = end_of(unit, size.max(1))?;
-    if width <= unit_end - taken {
-        return field_at(l, width, align, taken, unit);
+    // A struct's layout after a member of an alignment that ends at a bit.
+    pub fn advanced(self, end: u64, align: u64) -> Laid
+        ensures { laid_of result ≡ advanced (laid_of self) end (max align 1) }
+    {
+        Laid {
+            taken: end,
+            align: self.align.max(align),
+            ..self
+        }
     }
-    let place = next_place(taken, align)?;
-    let first = end_of(place, 0)?;
-    field_at(l, width, align, first, unit_at(first, size))
-}
 
-// A member of a struct. Its width is as the table holds it: 0 for a plain member, else 1 more than the bit-field's width.
-pub fn in_struct(l: Laid, width: u32, size: u64, align: u64) -> Option<Placed>
-    ensures { (e : Member) → width ≡ width_number e.width → placed result e ≡ in_struct e.width e size (max align 1) (laid_of l) }
-{
-    match width {
-        0 => plain_member(l, size, align),
-        1 => zero_field(l, align),
-        _ => bit_field(l, u64::from(width - 1), size, align),
+    // "a plain member goes to the next multiple of its alignment"
+    pub fn plain_member(self, size: u64, align: u64) -> Option<Placed>
+        ensures { (e : Member) → placed result e ≡ plain_member e size (max align 1) (laid_of self) }
+    {
+        let offset = next_place(self.taken, align)?;
+        let end = end_of(offset, size)?;
+        Some(Placed {
+            offset,
+            bit: 0,
+            laid: self.advanced(end, align),
+        })
     }
-}
 
-// A member of a union begins at 0; one of width 0 makes no field.
-pub fn in_union(l: Laid, width: u32, size: u64, align: u64) -> Laid
-    ensures { (e : Member) → width ≡ width_number e.width → (located e 0 0, laid_of result) ≡ in_union e size (max align 1) (laid_of l) }
-{
-    let widest = if width == 1 {
-        l.widest
-    } else {
-        l.widest.max(size)
-    };
-    Laid {
-        align: l.align.max(align),
-        widest,
-        ..l
+    // "Width 0 rounds up, makes no field, and its alignment counts in the size."
+    pub fn zero_field(self, align: u64) -> Option<Placed>
+        ensures { (e : Member) → placed result e ≡ zero_field e (max align 1) (laid_of self) }
+    {
+        let offset = next_place(self.taken, align)?;
+        let bit = end_of(offset, 0)?;
+        Some(Placed {
+            offset,
+            bit,
+            laid: self.advanced(bit, align),
+        })
     }
-}
 
-// The bytes that the members take.
-pub fn bytes_taken(l: Laid, union: bool) -> Option<u64>
-    ensures { (m : Model) (t : Table) (at : ℕ) → exact result at ≡ bytes_taken m t union at (laid_of l) }
-{
-    if union {
-        return Some(l.widest);
+    // A bit-field that begins at bit `first`, and at byte `offset`: "its byte offset is that of the unit holding the first bit".
+    pub fn field_at(self, width: u64, align: u64, first: u64, offset: u64) -> Option<Placed>
+        ensures { (e : Member) (unit : ℕ) → offset ≡ first / unit * unit / 8 → placed result e ≡ field_at e width unit (max align 1) (laid_of self) first }
+    {
+        let end = first.checked_add(width)?;
+        Some(Placed {
+            offset,
+            bit: first,
+            laid: self.advanced(end, align),
+        })
     }
-    let bytes = bytes_of(l.taken);
-    if ALL_BYTES <= bytes {
-        return None;
-    }
-    Some(bytes)
-}
 
-// "Struct and union end at a multiple of the largest alignment."
-pub fn record_size(l: Laid, union: bool) -> Result<u64, SizeError>
-    ensures { (m : Model) (t : Table) (at : ℕ) → sized result at ≡ record_size m t union at (laid_of l) }
-{
-    let bytes = bytes_taken(l, union).ok_or(SizeError::Overflow)?;
-    let size = round_up(bytes, l.align).ok_or(SizeError::Overflow)?;
-    if SIZE_LIMIT <= size {
-        return Err(SizeError::TooLarge);
+    // "A bit-field that would pass its unit (type size, at least 1 byte) moves to its alignment"
+    pub fn bit_field(self, width: u64, size: u64, align: u64) -> Option<Placed>
+        ensures { (e : Member) → placed result e ≡ bit_field e width (8 * max size 1) (max align 1) (laid_of self) }
+    {
+        let taken = self.taken;
+        let unit = unit_at(taken, size);
+        let unit_end = end_of(unit, size.max(1))?;
+        if width <= unit_end - taken {
+            return self.field_at(width, align, taken, unit);
+        }
+        let place = next_place(taken, align)?;
+        let first = end_of(place, 0)?;
+        self.field_at(width, align, first, unit_at(first, size))
     }
-    Ok(size)
+
+    // A member of a struct, with its width where it is a bit-field.
+    pub fn in_struct(self, width: Option<u32>, size: u64, align: u64) -> Option<Placed>
+        ensures { (e : Member) → option width ≡ e.width → placed result e ≡ in_struct e.width e size (max align 1) (laid_of self) }
+    {
+        match width {
+            None => self.plain_member(size, align),
+            Some(0) => self.zero_field(align),
+            Some(bits) => self.bit_field(u64::from(bits), size, align),
+        }
+    }
+
+    // A member of a union begins at 0; one of width 0 makes no field.
+    pub fn in_union(self, width: Option<u32>, size: u64, align: u64) -> Placed
+        ensures { (e : Member) → option width ≡ e.width → (located e result.offset result.bit, laid_of result.laid) ≡ in_union e size (max align 1) (laid_of self) }
+    {
+        let widest = match width {
+            Some(0) => self.widest,
+            _ => self.widest.max(size),
+        };
+        Placed {
+            offset: 0,
+            bit: 0,
+            laid: Laid {
+                align: self.align.max(align),
+                widest,
+                ..self
+            },
+        }
+    }
+
+    // The bytes that the members take.
+    pub fn bytes_taken(self, union: bool) -> Option<u64>
+        ensures { (m : Model) (t : Table) (at : ℕ) → exact result at ≡ bytes_taken m t union at (laid_of self) }
+    {
+        if union {
+            return Some(self.widest);
+        }
+        let bytes = bytes_of(self.taken);
+        if ALL_BYTES <= bytes {
+            return None;
+        }
+        Some(bytes)
+    }
+
+    // "Struct and union end at a multiple of the largest alignment."
+    pub fn record_size(self, union: bool) -> Result<u64, SizeError>
+        ensures { (m : Model) (t : Table) (at : ℕ) → sized result at ≡ record_size m t union at (laid_of self) }
+    {
+        let bytes = self.bytes_taken(union).ok_or(SizeError::Overflow)?;
+        let size = round_up(bytes, self.align).ok_or(SizeError::Overflow)?;
+        if SIZE_LIMIT <= size {
+            return Err(SizeError::TooLarge);
+        }
+        Ok(size)
+    }
 }

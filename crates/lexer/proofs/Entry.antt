@@ -5,8 +5,8 @@ use mathlib.Core.List.{List, [], ◌∷◌}
 use Prim.Native.Nat.{ℕ, suc, ◌≤◌, ◌<◌}
 use Rattle.std.specs.List.{fold}
 use native.Mathlib.Omega.{arith}
-use borrow.Author.Tests.{leb-true, leb-false}
-use lib.Dec.{leb, leb-suc-suc, leb-suc-zero}
+use borrow.Author.Tests.{ltb-true, ltb-false}
+use lib.Dec.{leb, ltb, leb-suc-suc, leb-suc-zero}
 use lib.ListN.{length, length-map}
 use Rattle.definition.specs.Answer.{got, refused}
 use Rattle.definition.specs.Text.{Bytes}
@@ -30,7 +30,7 @@ above-later b w h = lt_no 127 b _ _ h
 
 -- whether no byte is above 127
 abbrev pub both : Bool → ℕ → Bool
-both a b = a && leb b 127
+both a b = a && ltb b 128
 
 both-false : (w : Bytes) → fold both false w ≡ false
 both-false [] = refl
@@ -39,11 +39,11 @@ both-false (b ∷ w) = both-false w
 pub both-all : (w : Bytes) → fold both true w ≡ leb (length w) (before above_ascii w)
 unfolding before
 both-all [] = refl
-both-all (b ∷ w) = by (leb b 127) refl (both-all w)
+both-all (b ∷ w) = by (ltb b 128) refl (both-all w)
   where
-    by : (t : Bool) → leb b 127 ≡ t → fold both true w ≡ leb (length w) (before above_ascii w) → fold both t w ≡ leb (length (b ∷ w)) (before above_ascii (b ∷ w))
-    by true e h = h ∙ rw (above-later b w (leb-true b 127 e)) (sym (leb-suc-suc (length w) (before above_ascii w)))
-    by false e h = both-false w ∙ rw (above-here b w (leb-false b 127 e)) (sym (leb-suc-zero (length w)))
+    by : (t : Bool) → ltb b 128 ≡ t → fold both true w ≡ leb (length w) (before above_ascii w) → fold both t w ≡ leb (length (b ∷ w)) (before above_ascii (b ∷ w))
+    by true e h = h ∙ rw (above-later b w (omega (arith, ltb-true b 128 e))) (sym (leb-suc-suc (length w) (before above_ascii w)))
+    by false e h = both-false w ∙ rw (above-here b w (omega (arith, ltb-false b 128 e))) (sym (leb-suc-zero (length w)))
 
 -- the definition's answer
 module _ (text : Bytes) where

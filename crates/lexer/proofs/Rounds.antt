@@ -12,6 +12,8 @@ use Rattle.definition.specs.Token.{Token}
 use Rattle.definition.specs.Cut.{Cutting, push, cut_next, cut_all, cut}
 use Rattle.lemmas.proofs.Branch.{le_yes, le_no}
 use Rattle.std.specs.Prelude.{Ok, Err}
+use Rattle.encoding.specs.Kinds.{kind_number}
+use Rattle.encoding.specs.declared.token_kinds.TokenKind.{TokenKind}
 use Rattle.encoding.specs.Refusals.{number_of}
 use Rattle.encoding.specs.declared.refusals.Refusal.{Refusal}
 use Rattle.next_token.specs.Pieces.{state, CutsOn, Goes}
@@ -104,37 +106,37 @@ module _ (text : Bytes) (at : ℕ) (line : Bool) (count : ℕ) (ks ps ns : List 
       }
 
   module _ (room : Room text ks ps ns) (ks' ps' ns' : List ℕ) where
-    pub go-token : (k n to : ℕ) → CutsOn (cut_next text) text at line (Ok (Piece-as-Token k n to)) → at < to → is_name k ≡ false → ks' ≡ set ks count k → ps' ≡ set ps count at → ns' ≡ set ns count n → Going text to false (count + 1) ks' ps' ns' whole
+    pub go-token : (k : TokenKind) (n to : ℕ) → CutsOn (cut_next text) text at line (Ok (Piece-as-Token k n to)) → at < to → is_name (kind_number k) ≡ false → ks' ≡ set ks count (kind_number k) → ps' ≡ set ps count at → ns' ≡ set ns count n → Going text to false (count + 1) ks' ps' ns' whole
     unfolding push
     go-token k n to cuts o f a b c =
         let w = g.few in
         let l = go-count room in
         rw (a, b, c) (record {
-          tokens = g.tokens ++ record { kind = k; place = at; number = n } ∷ [];
+          tokens = g.tokens ++ record { kind = kind_number k; place = at; number = n } ∷ [];
           names = g.names;
           rounds = g.rounds - 1;
           enough = (let z = g.enough in omega arith);
           same = cut_on text g.rounds (state at line g.tokens g.names) whole g.enough g.same inside _ (sym (cuts g.tokens g.names));
           counted = (let z = g.counted in rw length-append (omega arith));
           few = omega arith;
-          holds = holds_more g.tokens ks ps ns count (record { kind = k; place = at; number = n }) g.holds g.counted l.0 l.1 l.2;
-          named = plain_more text ks ns count g.names k n g.named l.0 l.2 f;
+          holds = holds_more g.tokens ks ps ns count (record { kind = kind_number k; place = at; number = n }) g.holds g.counted l.0 l.1 l.2;
+          named = plain_more text ks ns count g.names (kind_number k) n g.named l.0 l.2 f;
         })
 
-    pub go-name : (k n to : ℕ) → CutsOn (cut_next text) text at line (Ok (Name k to)) → at < to → is_name k ≡ true → to ≤ length text → Finds text ks ns count at to n → ks' ≡ set ks count k → ps' ≡ set ps count at → ns' ≡ set ns count n → Going text to false (count + 1) ks' ps' ns' whole
+    pub go-name : (k : TokenKind) (n to : ℕ) → CutsOn (cut_next text) text at line (Ok (Name k to)) → at < to → is_name (kind_number k) ≡ true → to ≤ length text → Finds text ks ns count at to n → ks' ≡ set ks count (kind_number k) → ps' ≡ set ps count at → ns' ≡ set ns count n → Going text to false (count + 1) ks' ps' ns' whole
     go-name k n to cuts o f p finds a b c =
         let w = g.few in
         let l = go-count room in
-        let m = met text ks ns count at to k n line g.tokens g.names g.named l.0 l.2 o p room.fits f finds in
+        let m = met text ks ns count at to (kind_number k) n line g.tokens g.names g.named l.0 l.2 o p room.fits f finds in
         rw (a, b, c) (record {
-          tokens = g.tokens ++ record { kind = k; place = at; number = n } ∷ [];
+          tokens = g.tokens ++ record { kind = kind_number k; place = at; number = n } ∷ [];
           names = m.names';
           rounds = g.rounds - 1;
           enough = (let z = g.enough in omega arith);
           same = cut_on text g.rounds (state at line g.tokens g.names) whole g.enough g.same inside _ (sym (cuts g.tokens g.names) ∙ ap (λ (s : Cutting). got s) m.same);
           counted = (let z = g.counted in rw length-append (omega arith));
           few = omega arith;
-          holds = holds_more g.tokens ks ps ns count (record { kind = k; place = at; number = n }) g.holds g.counted l.0 l.1 l.2;
+          holds = holds_more g.tokens ks ps ns count (record { kind = kind_number k; place = at; number = n }) g.holds g.counted l.0 l.1 l.2;
           named = m.named;
         })
 
@@ -204,26 +206,26 @@ module _ {text : Bytes} {at : ℕ} {line : Bool} {count : ℕ} {ks ps ns ls : Li
   pub link_count : (count < length ks) × (count < length ps) × (count < length ns)
   link_count = go-count text at line count ks ps ns whole g.going inside g.room
 
-  pub link_search : (k to : ℕ) → Goes text at (Name k to) → Searches text ks ps ns ls heads count at to
+  pub link_search : (k : TokenKind) (to : ℕ) → Goes text at (Name k to) → Searches text ks ps ns ls heads count at to
   link_search k to o = go_search text at line count ks ps ns whole g.going inside to o.0 o.2 g.room ls heads g.hashes g.links g.chained
 
-  pub link_token : (k n to : ℕ) {ks' ps' ns' : List ℕ} → CutsOn (cut_next text) text at line (Ok (Piece-as-Token k n to)) → Goes text at (Piece-as-Token k n to) → ks' ≡ set ks count k → ps' ≡ set ps count at → ns' ≡ set ns count n → Linked text to false (count + 1) ks' ps' ns' ls heads whole
+  pub link_token : (k : TokenKind) (n to : ℕ) {ks' ps' ns' : List ℕ} → CutsOn (cut_next text) text at line (Ok (Piece-as-Token k n to)) → Goes text at (Piece-as-Token k n to) → ks' ≡ set ks count (kind_number k) → ps' ≡ set ps count at → ns' ≡ set ns count n → Linked text to false (count + 1) ks' ps' ns' ls heads whole
   link_token k n to {ks'} {ps'} {ns'} cuts o a b c =
       let w = link_count in
       record {
         going = go-token text at line count ks ps ns whole g.going inside g.room ks' ps' ns' k n to cuts o.0 o.1 a b c;
-        room = room-kept text ks ps ns ks' ps' ns' g.room (long-set ks ks' count k a) (long-set ps ps' count at b) (long-set ns ns' count n c);
+        room = room-kept text ks ps ns ks' ps' ns' g.room (long-set ks ks' count (kind_number k) a) (long-set ps ps' count at b) (long-set ns ns' count n c);
         hashes = g.hashes;
         links = g.links;
-        chained = rw (a, c) (chained-plain text ks ns ls heads count k n g.chained w.0 w.2 o.1);
+        chained = rw (a, c) (chained-plain text ks ns ls heads count (kind_number k) n g.chained w.0 w.2 o.1);
       }
 
-  pub link_name : (k to : ℕ) {ks' ps' ns' ls' : List ℕ} → CutsOn (cut_next text) text at line (Ok (Name k to)) → Goes text at (Name k to) → Stores text ks ps ns heads count k at to ks' ps' ns' ls' → length ls' ≡ length ls → Linked text to false (count + 1) ks' ps' ns' ls' heads whole
+  pub link_name : (k : TokenKind) (to : ℕ) {ks' ps' ns' ls' : List ℕ} → CutsOn (cut_next text) text at line (Ok (Name k to)) → Goes text at (Name k to) → Stores text ks ps ns heads count (kind_number k) at to ks' ps' ns' ls' → length ls' ≡ length ls → Linked text to false (count + 1) ks' ps' ns' ls' heads whole
   link_name k to {ks'} {ps'} {ns'} {ls'} cuts o s l =
       let long = g.links in
       record {
         going = go-name text at line count ks ps ns whole g.going inside g.room ks' ps' ns' k s.number to cuts o.0 o.1 o.2 s.finds s.kinds s.places s.numbers;
-        room = room-kept text ks ps ns ks' ps' ns' g.room (long-set ks ks' count k s.kinds) (long-set ps ps' count at s.places) (long-set ns ns' count s.number s.numbers);
+        room = room-kept text ks ps ns ks' ps' ns' g.room (long-set ks ks' count (kind_number k) s.kinds) (long-set ps ps' count at s.places) (long-set ns ns' count s.number s.numbers);
         hashes = g.hashes;
         links = omega (arith, l, long);
         chained = s.chained;

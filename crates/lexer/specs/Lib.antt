@@ -1,3 +1,4 @@
 pub mod Columns
 pub mod Names
 pub mod Going
+pub mod Pushing

@@ -1,9 +1,11 @@
 -- The words of the numbers are the words of the row or the entry. Assumes nothing.
 use mathlib.Core.Path.{◌≡◌, refl, ap, ◌∙◌}
-use mathlib.Core.Bool.{Bool, true, false}
+use mathlib.Core.Bool.{Bool, true, false, not}
 use mathlib.Core.List.{[], ◌∷◌}
 use mathlib.Core.Option.{Option, none, some}
 use Rattle.std.specs.Prelude.{Option as CodeOption, Some, None}
+use Rattle.std.specs.Option.{option_and}
+use Rattle.std.specs.Bool.{then_some}
 use Prim.Native.Nat.{ℕ, ◌^◌, ◌<◌}
 use native.Mathlib.Omega.{arith}
 use lib.Dec.{eqb, ltb}
@@ -11,20 +13,24 @@ use Rattle.lemmas.proofs.Branch.{eq_no}
 use borrow.Author.Tests.{eqb-true, eqb-false}
 use Rattle.definition.specs.Text.{Bytes, bytes}
 use Rattle.definition.specs.Row.{Row, void, int, float, bool, pointer, array, composite, enumeration, function, typedef, qualified, kind_of, target_of, flags_of, row_name, extent_of}
-use Rattle.definition.specs.Types.{width_number}
-use Rattle.definition.specs.Listing.{decimal, or_dash, name_word, size_word, letters, kind_word, details}
+use Rattle.definition.specs.Listing.{decimal, or_dash, bit_words, name_word, size_word, letters, kind_word, details}
+use Rattle.lemmas.specs.Options.{option}
 use Rattle.words.proofs.Uses.{bits-qualifiers}
 use Rattle.size_align.specs.declared.Size.TheVariants.{Known, Big}
 use Rattle.size_align.specs.Measure.{told_below, told, align}
 use Rattle.table.specs.declared.Numbers.{Numbers}
 use Rattle.table.specs.Reply.{numbers}
 use Rattle.printing.specs.Words.{or_dash_of}
-use Rattle.line_format.specs.Parts.{width_of, size_bytes, kind_bytes, details_of}
+use Rattle.line_format.specs.Parts.{some_if, size_bytes, kind_bytes, details_of}
 
--- widths
-pub width-of : (o : Option ℕ) → width_of (width_number o) ≡ o
-width-of none = refl
-width-of (some w) = refl
+-- widths: the words of a bit-field, or two dashes
+pub first_bit_word : (o : CodeOption ℕ) (b : ℕ) → or_dash_of decimal (option_and o (Some b)) ≡ (bit_words (option o) b).0
+first_bit_word (Some w) b = refl
+first_bit_word None b = refl
+
+pub width_word : (o : CodeOption ℕ) (b : ℕ) → or_dash_of decimal o ≡ (bit_words (option o) b).1
+width_word (Some w) b = refl
+width_word None b = refl
 
 -- sizes
 pub size_word_lem : (o : Option ℕ) → size_bytes (told o) ≡ size_word o
@@ -36,8 +42,17 @@ size_word_lem (some s) = by (ltb s (2 ^ 64))
     by true = refl
     by false = refl
 
+-- a number where a flag is set
+pub set_word : (flag x : ℕ) → or_dash_of decimal (then_some (not (eqb flag 0)) x) ≡ or_dash (some_if flag x)
+unfolding or_dash
+set_word flag x = by (eqb flag 0)
+  where
+    by : (b : Bool) → or_dash_of decimal (then_some (not b) x) ≡ or_dash (elim b as (λ z. Option ℕ) [ true ↦ none | false ↦ some x ])
+    by true = refl
+    by false = refl
+
 -- alignments
-pub align_word : (a : CodeOption ℕ) → or_dash_of a ≡ or_dash (align a)
+pub align_word : (a : CodeOption ℕ) → or_dash_of decimal a ≡ or_dash (align a)
 unfolding or_dash
 align_word (Some a) = refl
 align_word None = refl

@@ -1,11 +1,11 @@
 -- The words of a line from the numbers of the table.
-use Rattle.std.specs.Prelude.{Bool, true, false, List, [], ◌∷◌, ℕ, zero, suc, ◌/◌, ◌%◌, eqb, ℤ}
+use Rattle.std.specs.Prelude.{Bool, true, false, List, [], ◌∷◌, ℕ, ◌/◌, ◌%◌, eqb, ℤ}
 use Rattle.std.proofs.Math.Option.{Option, none, some}
 use Rattle.definition.specs.Text.{Bytes, bytes}
 use Rattle.definition.specs.RowKind.{void_kind, int_kind, float_kind, bool_kind, pointer_kind, array_kind, struct_kind, union_kind, enum_kind, function_kind, typedef_kind, qualified_kind}
-use Rattle.definition.specs.Table.{Member as MeantMember, Value, Parameter, Declaration}
+use Rattle.definition.specs.Table.{Member as MeantMember, Value, Parameter}
 use Rattle.definition.specs.Listing.{decimal, dash, or_dash, name_word, sign_word, dots, letters}
-use Rattle.encoding.specs.Storage.{storage_numbered}
+use Rattle.lemmas.specs.Options.{option}
 use Rattle.words.specs.Meaning.{qualifiers_in}
 use Rattle.size_align.specs.declared.Size.{Size}
 use Rattle.size_align.specs.declared.Size.TheVariants.{Known, Big, Unknown}
@@ -18,11 +18,6 @@ is_set flag = elim (eqb flag 0) [ true ↦ false | false ↦ true ]
 
 abbrev pub some_if : ℕ → ℕ → Option ℕ
 some_if flag x = elim (eqb flag 0) [ true ↦ none | false ↦ some x ]
-
--- the width of a number that is 0 for a plain member
-abbrev pub width_of : ℕ → Option ℕ
-width_of zero = none
-width_of (suc w) = some w
 
 abbrev pub size_bytes : Size → Bytes
 size_bytes (Known s) = decimal s
@@ -66,13 +61,10 @@ details_of text x = chosen x.kind (
 
 -- entries of their numbers; no line tells an entry's row
 abbrev pub member_of : Member → MeantMember
-member_of x = record { row = 0; type = x.ty; name = x.name; width = width_of x.width; offset = x.offset; first_bit = x.bit }
+member_of x = record { row = 0; type = x.ty; name = x.name; width = option x.width; offset = x.offset; first_bit = x.bit }
 
 abbrev pub value_of : ℤ → ℕ → Value
 value_of value name = record { row = 0; name = name; value = value }
 
 abbrev pub parameter_of : ℕ → ℕ → Parameter
 parameter_of type name = record { row = 0; type = type; name = name }
-
-abbrev pub declaration_of : ℕ → ℕ → ℕ → Declaration
-declaration_of storage type name = record { storage = storage_numbered storage; type = type; name = name }

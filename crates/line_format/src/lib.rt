@@ -3,14 +3,13 @@
 ghost use Rattle.std.specs.Prelude.{◌≡◌, ◌∷◌, [], ◌+◌};
 ghost use Rattle.definition.specs.Text.{bytes};
 ghost use Rattle.definition.specs.Byte.{space};
-ghost use Rattle.definition.specs.Listing.{decimal, or_dash, sign_word, dots, letters, storage_word, bit_words, member_line, value_line, param_line, decl_line, parted};
+ghost use Rattle.definition.specs.Listing.{decimal, or_dash, sign_word, dots, letters, storage_word, member_line, value_line, param_line, decl_line, parted};
 ghost use Rattle.words.specs.Meaning.{qualifiers_in};
 ghost use Rattle.encoding.specs.Storage.{storage};
 ghost use Rattle.table.specs.Reply.{declaration};
 ghost use Rattle.size_align.specs.Measure.{align};
-ghost use Rattle.printing.specs.Words.{or_dash_of};
 ghost use Rattle.printing.specs.Written.{Writes, WritesWords};
-ghost use Rattle.line_format.specs.Parts.{is_set, some_if, width_of, size_bytes, kind_bytes, details_of, member_of, value_of, parameter_of, declaration_of};
+ghost use Rattle.line_format.specs.Parts.{size_bytes, kind_bytes, details_of, member_of, value_of, parameter_of};
 
 use encoding::row_kinds::{
     ARRAY_KIND, BOOL_KIND, ENUM_KIND, FLOAT_KIND, FUNCTION_KIND, INT_KIND, POINTER_KIND,
@@ -21,11 +20,11 @@ use printing::{Name, Writer};
 use size_align::Size;
 use table::{Declaration, Numbers};
 
-// The numbers of a member that its line tells; the width is 0 for a plain member, else 1 more than the bit-field's.
+// What the line of a member tells; a plain member has no width.
 #[derive(Clone, Copy)]
 pub struct Member {
     pub offset: u64,
-    pub width: u32,
+    pub width: Option<u32>,
     pub bit: u64,
     pub ty: u32,
     pub name: u32,
@@ -33,22 +32,16 @@ pub struct Member {
 
 // ---- words
 
-fn sign_word(flag: u32) -> &'static str
-    ensures { result.now ≡ sign_word (is_set flag) }
+fn sign_word(signed: bool) -> &'static str
+    ensures { result.now ≡ sign_word signed }
 {
-    match flag {
-        0 => "unsigned",
-        _ => "signed",
-    }
+    if signed { "signed" } else { "unsigned" }
 }
 
-fn dots(flag: u32) -> &'static str
-    ensures { result.now ≡ dots (is_set flag) }
+fn dots(varargs: bool) -> &'static str
+    ensures { result.now ≡ dots varargs }
 {
-    match flag {
-        0 => ".",
-        _ => "...",
-    }
+    if varargs { "..." } else { "." }
 }
 
 #[tactic(auto, unfolding(definition::specs::Text::bytes, definition::specs::Listing::letters, words::specs::Meaning::qualifiers_in))]
@@ -100,28 +93,6 @@ fn kind_word(kind: u32) -> &'static str
     }
 }
 
-// A number where a flag is set.
-#[tactic(auto, unfolding(definition::specs::Text::bytes, definition::specs::Listing::or_dash))]
-fn where_set(flag: u32, x: u64) -> Option<u64>
-    ensures { or_dash_of result ≡ or_dash (some_if flag x) }
-{
-    match flag {
-        0 => None,
-        _ => Some(x),
-    }
-}
-
-// First bit and width of a bit-field.
-fn bits(width: u32, bit: u64) -> (Option<u64>, Option<u64>)
-    ensures first { or_dash_of result.0 ≡ (bit_words (width_of width) bit).0 }
-    ensures width { or_dash_of result.1 ≡ (bit_words (width_of width) bit).1 }
-{
-    match width {
-        0 => (None, None),
-        _ => (Some(bit), Some((width - 1) as u64)),
-    }
-}
-
 fn next_size(out: &mut Writer<'_>, size: Size)
     ensures { Writes (space ∷ size_bytes size) out.old out.new }
 {
@@ -139,7 +110,7 @@ pub fn put_head(out: &mut Writer<'_>, row: u32, kind: u32, size: Size, a: Option
     ensures { Writes (parted (bytes "type") (decimal row ∷ kind_bytes kind ∷ size_bytes size ∷ or_dash (align a) ∷ [])) out.old out.new }
 {
     out.put("type");
-    out.next(row as u64);
+    out.next(row);
     out.next(kind_word(kind));
     next_size(out, size);
     out.next(a);
@@ -150,20 +121,20 @@ pub fn put_details(out: &mut Writer<'_>, text: &[u8], x: Numbers)
     ensures { WritesWords (details_of text.now x) out.old out.new }
 {
     let kind = x.kind;
-    let target = x.target as u64;
+    let target = x.target;
     let flags = x.flags;
     let name = Name { text, name: x.name };
     match kind {
         VOID_KIND | FLOAT_KIND | BOOL_KIND => {}
-        INT_KIND => out.next(sign_word(flags)),
+        INT_KIND => out.next(sign_word(flags != 0)),
         POINTER_KIND => out.next(target),
         ARRAY_KIND => {
             out.next(target);
-            out.next(where_set(flags, x.extent));
+            out.next((flags != 0).then_some(x.extent));
         }
         FUNCTION_KIND => {
-            out.next(where_set(flags % 2, target));
-            out.next(dots(flags / 2));
+            out.next((flags % 2 != 0).then_some(target));
+            out.next(dots(flags / 2 != 0));
         }
         TYPEDEF_KIND => {
             out.next(target);
@@ -182,12 +153,11 @@ pub fn put_details(out: &mut Writer<'_>, text: &[u8], x: Numbers)
 pub fn put_member(out: &mut Writer<'_>, text: &[u8], x: Member)
     ensures { Writes (member_line text.now (member_of x)) out.old out.new }
 {
-    let (bit, width) = bits(x.width, x.bit);
     out.put("member");
     out.next(x.offset);
-    out.next(bit);
-    out.next(width);
-    out.next(x.ty as u64);
+    out.next(x.width.and(Some(x.bit)));
+    out.next(x.width);
+    out.next(x.ty);
     out.next(Name { text, name: x.name });
     out.end_line();
 }
@@ -205,17 +175,9 @@ pub fn put_param(out: &mut Writer<'_>, text: &[u8], ty: u32, name: u32)
     ensures { Writes (param_line text.now (parameter_of ty name)) out.old out.new }
 {
     out.put("param");
-    out.next(ty as u64);
+    out.next(ty);
     out.next(Name { text, name });
     out.end_line();
-}
-
-// The line of a declaration's numbers.
-pub fn put_decl(out: &mut Writer<'_>, text: &[u8], storage: u32, ty: u32, name: u32)
-    ensures { Writes (decl_line text.now (declaration_of storage ty name)) out.old out.new }
-{
-    let storage = Storage::numbered(storage);
-    put_declaration(out, text, Declaration { storage, ty, name });
 }
 
 pub fn put_declaration(out: &mut Writer<'_>, text: &[u8], x: Declaration)
@@ -224,7 +186,7 @@ pub fn put_declaration(out: &mut Writer<'_>, text: &[u8], x: Declaration)
     let class = x.storage;
     out.put("decl");
     out.next(storage_word(class));
-    out.next(x.ty as u64);
+    out.next(x.ty);
     out.next(Name { text, name: x.name });
     out.end_line();
 }

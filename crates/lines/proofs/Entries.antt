@@ -1,5 +1,5 @@
 -- The line of an entry's numbers is the entry's line. Assumes nothing.
-use mathlib.Core.Path.{◌≡◌, refl}
+use mathlib.Core.Path.{◌≡◌, refl, ap}
 use mathlib.Core.List.{List, [], ◌∷◌}
 use Prim.Native.Nat.{ℕ}
 use lib.IntN.{ℤ}
@@ -9,7 +9,7 @@ use Rattle.definition.specs.Model.{Model}
 use Rattle.definition.specs.Size.{size_of}
 use Rattle.definition.specs.Align.{align_of}
 use Rattle.definition.specs.Table.{Table, row_at, Member as MeantMember, Value, Parameter}
-use Rattle.definition.specs.Types.{width_number}
+use Rattle.lemmas.specs.Options.{option}
 use Rattle.definition.specs.Listing.{decimal, or_dash, size_word, parted, kind_word, type_line, member_line, value_line, param_line, details}
 use Rattle.size_align.specs.declared.Size.{Size}
 use Rattle.std.specs.Prelude.{Option}
@@ -21,13 +21,13 @@ use Rattle.printing.specs.declared.Writer.{Writer}
 use Rattle.printing.specs.Written.{Writes, WritesWords}
 use Rattle.printing.proofs.Writing.{as_is, words_as, line_after}
 use Rattle.line_format.specs.Parts.{member_of, value_of, parameter_of, details_of, kind_bytes, size_bytes}
-use Rattle.line_format.proofs.Rows.{width-of, details-of, kind-word, size_word_lem}
+use Rattle.line_format.proofs.Rows.{details-of, kind-word, size_word_lem}
 
 module _ (text : Bytes) where
-  pub member-same : (e : MeantMember) {offset width bit type name : ℕ} → offset ≡ e.offset → width ≡ width_number e.width → bit ≡ e.first_bit → type ≡ e.type → name ≡ e.name
+  pub member-same : (e : MeantMember) (width : Option ℕ) {offset bit type name : ℕ} → offset ≡ e.offset → option width ≡ e.width → bit ≡ e.first_bit → type ≡ e.type → name ≡ e.name
       → member_line text (member_of (record { offset = offset; width = width; bit = bit; ty = type; name = name })) ≡ member_line text e
   unfolding member_line
-  member-same e p q r s u = rw (p, q, r, s, u, width-of e.width)
+  member-same e width p q r s u = rw (p, q, r, s, u)
 
   pub value_same : (e : Value) {value : ℤ} {name : ℕ} → value ≡ e.value → name ≡ e.name → value_line text (value_of value name) ≡ value_line text e
   unfolding value_line

@@ -52,7 +52,7 @@ pub fn param_line(out: &mut Writer<'_>, text: &[u8], w: &[u32], i: usize)
 pub fn declaration_storage(w: &[u32], i: usize) -> u32
     ensures { WordIs (λ t. storage_number (declaration_at t i).storage) w.now result }
 {
-    declaration_at(w, i).storage.number()
+    u32::from(declaration_at(w, i).storage)
 }
 
 pub fn declaration_type(w: &[u32], i: usize) -> u32

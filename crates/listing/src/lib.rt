@@ -101,8 +101,7 @@ fn type_lines(
     requires { Room c }
     ensures { WritesAs (λ t. Stands t c w.now d.now v.now) (λ t. type_lines text.now (model m) t 0 t.rows) out.old out.new }
 {
-    for i in 0..c.rows {
-        let row = i as u32;
+    for row in 0..c.rows as u32 {
         type_line(out, text, m, w, d, c.members, row);
         sub_lines(out, text, w, d, v, c, row);
     }

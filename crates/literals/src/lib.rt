@@ -1,35 +1,29 @@
 #![tactic(auto)]
 // Literals: the value of a number, and of a character constant.
-ghost use Rattle.std.specs.Prelude.{◌≡◌, ◌+◌, ◌*◌, ◌≤◌, ◌<◌};
+ghost use Rattle.std.specs.Prelude.{◌≡◌, ◌≤◌, ◌<◌, IfSome};
 ghost use Rattle.definition.specs.Class.{among};
 ghost use Rattle.definition.specs.Number.{digit_value, suffix_bytes, body_length, digits_value, body_value, number_value};
 ghost use Rattle.encoding.specs.Refusals.{answer};
-ghost use Rattle.literals.specs.Shown.{capped};
+ghost use Rattle.literals.specs.Shown.{digit, with_digit};
 
 use encoding::range::ABOVE_RANGE;
 use encoding::refusals::{Reason, Refusal};
 
-const NO_DIGIT: u32 = 99;
-
 // The value of a digit.
-#[tactic(auto, unfolding(definition::specs::Number::digit_value))]
-pub fn digit_value(b: u32) -> u32
-    ensures { result ≡ digit_value b }
+#[tactic(auto, using(std::proofs::lemmas::Bool::Decides::nat_tests), unfolding(definition::specs::Number::digit_value))]
+pub fn digit_value(b: u32) -> Option<u32>
+    ensures value { digit result ≡ digit_value b }
+    ensures base { IfSome result (λ d. d < 16) }
 {
-    match b {
-        48..=57 => b - 48,
-        65..=70 => b - 65 + 10,
-        97..=102 => b - 97 + 10,
-        _ => NO_DIGIT,
-    }
+    char::from_u32(b)?.to_digit(16)
 }
 
-// A byte of a suffix: u U l L z Z.
+// A byte of a suffix.
 #[tactic(auto, unfolding(definition::specs::Class::among, definition::specs::Number::suffix_bytes, definition::specs::Text::bytes))]
 pub fn is_suffix(b: u32) -> bool
     ensures { result ≡ among b suffix_bytes }
 {
-    matches!(b, 117 | 85 | 108 | 76 | 122 | 90)
+    matches!(u8::try_from(b), Ok(b'u' | b'U' | b'l' | b'L' | b'z' | b'Z'))
 }
 
 // How many bytes of a word are left without its suffix.
@@ -42,15 +36,13 @@ pub fn body_length(word: &[u8]) -> usize
     }
 }
 
-// One digit more, where all that is too large stands as ABOVE_RANGE.
-pub fn add_digit(v: u64, base: u64, d: u64) -> u64
-    requires { (d < base) × (base ≤ 256) }
-    ensures { result ≡ capped (v * base + d) }
+// One digit more, while the value is in range.
+pub fn add_digit(v: Option<u64>, base: u64, d: u64) -> Option<u64>
+    ensures { result ≡ with_digit v base d }
 {
-    if (ABOVE_RANGE - 1 - d) / base < v {
-        return ABOVE_RANGE;
-    }
-    v * base + d
+    v?.checked_mul(base)?
+        .checked_add(d)
+        .filter(|v| *v < ABOVE_RANGE)
 }
 
 // The value of digits to a base.
@@ -65,21 +57,19 @@ pub fn digits_value(digits: &[u8], base: u32, at: usize) -> Result<u64, Refusal>
             at,
         });
     }
-    let mut v = 0;
+    let mut v = Some(0);
     for b in digits {
-        let d = digit_value(u32::from(*b));
-        if base <= d {
-            return Err(Refusal {
-                reason: Reason::BadLiteral,
-                at,
-            });
+        match digit_value(u32::from(*b)) {
+            Some(d) if d < base => v = add_digit(v, u64::from(base), u64::from(d)),
+            _ => {
+                return Err(Refusal {
+                    reason: Reason::BadLiteral,
+                    at,
+                });
+            }
         }
-        v = add_digit(v, u64::from(base), u64::from(d));
     }
-    if v < ABOVE_RANGE {
-        return Ok(v);
-    }
-    Err(Refusal {
+    v.ok_or(Refusal {
         reason: Reason::OutOfRange,
         at,
     })

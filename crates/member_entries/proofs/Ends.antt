@@ -20,22 +20,11 @@ use Rattle.table.specs.Store.{ChangesWords}
 use Rattle.table.specs.declared.Cursor.{Cursor}
 use Rattle.table.proofs.Branch.{via, halt}
 use Rattle.table.proofs.Shown.{got!, no_left}
-use Rattle.fields.specs.Fields.{field_pushed, width_in}
-use Rattle.bounds_widths.specs.Parts as Parts
 use Rattle.open_lists.specs.Owning.{Counted}
 use Rattle.layout.specs.Lays.{Lays, done, stop}
 use Rattle.body_rows.specs.Bodies.{body_of}
 use Rattle.body_rows.proofs.Logs.{logged-on}
 use Rattle.member_entries.specs.Pieces.{closed}
-
--- a width's number says the same to both who use it
-same_width : (n : ℕ) → width_in n ≡ Parts.width_in n
-same_width zero = refl
-same_width (suc n) = refl
-
-pub pushed : {c : Cursor} {w d w' d' : List ℕ} {v v' : List ℤ} {r : Reply Nothing} (first type name n at : ℕ)
-    → Moves (field_pushed first type name (width_in n) at) c w d v r w' d' v' → Moves (field_pushed first type name (Parts.width_in n) at) c w d v r w' d' v'
-pushed {c} {w} {d} {w'} {d'} {v} {v'} {r} first type name n at h = subst (λ k. Moves (field_pushed first type name k at) c w d v r w' d' v') (same_width n) h
 
 -- a name, or none that is asked for
 pub named : {b : Bool} {n : ℕ} → ((b ≡ false) × (n ≡ no_name → ⊥)) ⊎ (b ≡ true) → (not b && eqb n no_name) ≡ false
@@ -59,7 +48,7 @@ module _ {t : Table} {c : Cursor} {w d : List ℕ} {v : List ℤ} (m : Model) (u
 
   pub closed-laid : {w' : List ℕ} {size count : ℕ} → Lays t c w d v (layout m t union first at) (ok c size)
       → ChangesWords (λ u. with_members u (fields_only first u.members)) c w w' → Counted (λ u. how_many_carry (mark_of first) (drop first u.members)) c w' count
-      → Shows both (closed m union first at (state c t)) (ok c (body_of size first count)) w' d v
+      → Shows both (closed m union first at (state c t)) (ok c (body_of size (record { first = first; count = count }))) w' d v
   unfolding closed
   closed-laid {size = size} {count} (done x es a q h) f g =
       let z : size ≡ x = cc in

@@ -9,7 +9,7 @@ use Rattle.member_entries.specs.declared.Body.{Body}
 
 -- the body that one of the code means
 abbrev pub laid : Body → MeantBody
-laid b = body_of b.size b.first b.count
+laid b = body_of b.size b.fields
 
 -- f is done; the values do not bear on it, and stay
 pub record Closes {X : Type 0} (f : Reads X) (c : Cursor) (w d : List ℕ) (r : Reply X) (w' d' : List ℕ) : Type 0 where

@@ -1,6 +1,7 @@
 #![tactic(auto)]
 // The end of a member's declarator, and the end of a body: the parts of reading members that read no specifiers and no declarators.
 ghost use Rattle.std.specs.Prelude.{◌≡◌, ◌≤◌, length};
+ghost use Rattle.encoding.specs.Kinds.{kind_numbers};
 ghost use Rattle.definition.specs.Limit.{max_members};
 ghost use Rattle.definition.specs.Model.{Model as MeantModel};
 ghost use Rattle.definition.specs.Reader.{levels};
@@ -15,23 +16,24 @@ ghost use Rattle.member_entries.specs.Ended.{laid, Closes};
 use bounds_widths::bit_width;
 use encoding::names::NO_NAME;
 use encoding::refusals::{Reason, Refusal};
+use encoding::span::Span;
+use encoding::token_kinds::TokenKind;
 use fields::push_field;
 use layout::layout;
 use model::Model;
 use open_lists::{field_count, fields_only};
 use table::{Answer, Cursor};
 
-// A body that was laid out: its size, its first field and how many there are.
+// A body that was laid out: its size, and where its fields stand.
 #[derive(Clone, Copy)]
 pub struct Body {
     pub size: u64,
-    pub first: u32,
-    pub count: u32,
+    pub fields: Span,
 }
 
 // A member of a type, with its width. `unnamed` where a bit-field stands without a declarator: every other member has a name.
 pub fn field(
-    kinds: &[u32],
+    kinds: &[TokenKind],
     numbers: &[u64],
     w: &mut [u32],
     d: &mut [u64],
@@ -45,7 +47,7 @@ pub fn field(
     room: u32,
 ) -> Result<Cursor, Refusal>
     requires { Held c w.old d.old v.old × (first ≤ max_members) }
-    ensures { (m : MeantModel) → Moves (field (tokens kinds.now numbers.now) m (levels (tokens kinds.now numbers.now) m room) unnamed first ty name at) c w.old d.old v.old (reply_alone result) w.new d.new v.new }
+    ensures { (m : MeantModel) → Moves (field (tokens (kind_numbers kinds.now) numbers.now) m (levels (tokens (kind_numbers kinds.now) numbers.now) m room) unnamed first ty name at) c w.old d.old v.old (reply_alone result) w.new d.new v.new }
 {
     let (e, width) = bit_width(kinds, numbers, w, v, c, at, room)?;
     if !unnamed && name == NO_NAME {
@@ -73,5 +75,6 @@ pub fn close_body(
     let size = layout(m, w, d, c, union, first, at)?;
     fields_only(w, c, first);
     let count = field_count(w, c, first);
-    Ok((c, Body { size, first, count }))
+    let fields = Span { first, count };
+    Ok((c, Body { size, fields }))
 }

@@ -1,5 +1,5 @@
 -- What is written: the names of the table that the slice holds.
-use Rattle.std.specs.Prelude.{◌≡◌, Bool, ◌&&◌, List, ℕ, ◌*◌, eqb, length, replicate}
+use Rattle.std.specs.Prelude.{◌≡◌, Bool, ◌&&◌, List, ℕ, ◌*◌, eqb, length, get_or, replicate}
 use Rattle.definition.specs.Limit.{max_names}
 use Rattle.definition.specs.Kind.{is_name}
 use Rattle.definition.specs.Name.{offset_of}
@@ -12,8 +12,8 @@ use Rattle.table.specs.Held.{reading_words, counts_of, Fits, Counts, InWords, Ma
 use Rattle.table.specs.declared.Cursor.{Cursor}
 
 -- a token is a name at the first place of its spelling
-abbrev pub is_first : ℕ → ℕ → ℕ → Bool
-is_first k p n = is_name k && eqb (offset_of n) p
+abbrev pub is_first : List ℕ → List ℕ → List ℕ → ℕ → Bool
+is_first ks ps ns i = is_name (get_or ks i 0) && eqb (offset_of (get_or ns i 0)) (get_or ps i 0)
 
 -- the slice holds a table, and no index any more: the names' part is zero
 pub record Plain (t : Table) (w : List ℕ) : Type 0 where

@@ -1,5 +1,5 @@
 -- How the code finds the names that are held: they are listed at their first place, and struck out where an entry holds them.
-use Rattle.std.specs.Prelude.{◌≡◌, Bool, true, false, ◌||◌, List, [], ◌∷◌, ◌++◌, ℕ, zero, suc, ◌+◌, ◌*◌, ◌<◌, eqb, length, get_or}
+use Rattle.std.specs.Prelude.{◌≡◌, Bool, true, false, ◌&&◌, ◌||◌, List, [], ◌∷◌, ◌++◌, ℕ, zero, suc, ◌+◌, ◌*◌, ◌<◌, eqb, length, get_or}
 use Rattle.definition.specs.Name.{offset_of}
 use Rattle.definition.specs.Token.{Lexed}
 use Rattle.definition.specs.Table.{Table}
@@ -22,7 +22,7 @@ pub record PlacesBelow (ps : List ℕ) (n : ℕ) : Type 0 where
 
 -- every name at its first place is listed there, by the index of its token and 1
 pub record Listed (ks ps ns m : List ℕ) : Type 0 where
-  pub at : (i : ℕ) → i < length ks → is_first (get_or ks i 0) (get_or ps i 0) (get_or ns i 0) ≡ true → get_or m (get_or ps i 0) 0 ≡ i + 1
+  pub at : (i : ℕ) → i < length ks → is_first ks ps ns i ≡ true → get_or m (get_or ps i 0) 0 ≡ i + 1
 
 -- where a name is listed
 abbrev pub slot : ℕ → ℕ
@@ -39,9 +39,13 @@ pub record Struck (ns hs m m' : List ℕ) : Type 0 where
 pub record Strikes (w : List ℕ) (c : Cursor) (ns m m' : List ℕ) : Type 0 where
   pub run : (t : Table) → Counts t c → InWords t w → Struck ns (held_names t) m m'
 
+-- a token is a name at its first place, and was struck out
+abbrev pub is_found : List ℕ → List ℕ → List ℕ → List ℕ → ℕ → Bool
+is_found ks ps ns m i = is_first ks ps ns i && eqb (get_or m (get_or ps i 0) 0) 0
+
 -- a name at its first place was struck out where it is held
 pub record Found (ks ps ns m held : List ℕ) : Type 0 where
-  pub at : (i : ℕ) → i < length ks → is_first (get_or ks i 0) (get_or ps i 0) (get_or ns i 0) ≡ true → eqb (get_or m (get_or ps i 0) 0) 0 ≡ is_held (get_or ns i 0) held
+  pub at : (i : ℕ) → i < length ks → is_first ks ps ns i ≡ true → eqb (get_or m (get_or ps i 0) 0) 0 ≡ is_held (get_or ns i 0) held
 
 pub record Ready (ks ps ns m w : List ℕ) : Type 0 where
   pub columns : Columns ks ps ns

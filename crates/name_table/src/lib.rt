@@ -1,89 +1,127 @@
 #![tactic(auto)]
 // The names of a table, written into the lent slice when the text is read. Each name of the text is listed at its first place, by the index of its token and 1; those that an entry holds
 // are struck out; the ones struck out are written, in the order of the tokens.
-ghost use Rattle.std.specs.Prelude.{◌≡◌, ◌&&◌, [], ◌∷◌, ◌+◌, ◌*◌, ◌≤◌, ◌<◌, eqb, length, get_or};
-ghost use Rattle.table.specs.Held.{Room};
+ghost use Rattle.std.specs.Prelude.{◌≡◌, [], ◌∷◌, ◌+◌, ◌*◌, ◌^◌, ◌≤◌, ◌<◌, length, set};
+ghost use Rattle.definition.specs.Limit.{max_names};
+ghost use Rattle.definition.specs.Name.{offset_of, length_of};
+ghost use Rattle.definition.specs.Region.{words_length, names_at};
 ghost use Rattle.definition_laws.specs.Columns.{Columns};
+ghost use Rattle.encoding.specs.Kinds.{kind_numbers};
+ghost use Rattle.table.specs.Held.{Room};
 ghost use Rattle.name_table.specs.Names.{is_first, HeldWords, Writes};
-ghost use Rattle.name_table.specs.Striking.{column, PlacesBelow, Listed, Struck, Strikes, Ready, Fills, PlainWords, WritesPlain};
-ghost use Rattle.definition.specs.Region.{words_length};
+ghost use Rattle.name_table.specs.Striking.{column, PlacesBelow, Listed, Struck, Strikes, is_found, Ready, Fills, PlainWords, WritesPlain};
 
-use encoding::names::NAME_UNIT;
+use encoding::names::Name;
 use encoding::regions::{
     DECLARATION_COLUMNS, DECLARATION_NAME, DECLARATIONS_AT, MEMBER_COLUMNS, MEMBER_NAME,
     MEMBERS_AT, NAME_COLUMNS, NAMES_AT, PARAMETER_COLUMNS, PARAMETER_NAME, PARAMETERS_AT,
     ROW_COLUMNS, ROW_NAME, VALUE_COLUMNS, VALUE_NAME, VALUES_AT,
 };
+use encoding::token_kinds::TokenKind;
 use erasing::clear_index;
 use table::Cursor;
 use words::classes::is_name;
 
-// A name is this times its length, and its offset.
-const NAME_LENGTH: u64 = NAME_UNIT as u64;
-
-// A token is a name at the first place of its spelling.
-fn is_first(kind: u32, place: u32, number: u64) -> bool
-    ensures { result ≡ is_first kind place number }
-{
-    is_name(kind) & (number % NAME_LENGTH == place as u64)
+// The columns of a text's tokens.
+#[derive(Clone, Copy)]
+struct Tokens<'a> {
+    kinds: &'a [TokenKind],
+    places: &'a [u32],
+    numbers: &'a [u64],
+    ghost columns: { Columns (kind_numbers kinds.now) places.now numbers.now },
 }
 
-// Lists each name of the text at its first place.
-fn list(kinds: &[u32], places: &[u32], numbers: &[u64], listed: &mut [u16])
-    requires columns { Columns kinds.now places.now numbers.now }
-    requires places_below { PlacesBelow places.now (length listed.old) }
-    ensures { Listed kinds.now places.now numbers.now listed.new }
-{
-    let mut i = 0;
-    while i < kinds.len() {
-        let number = numbers[i];
-        let place = places[i];
-        if is_first(kinds[i], place, number) {
-            listed[place as usize] = (i + 1) as u16;
-            i += 1;
-            continue;
+impl Tokens<'_> {
+    // A token is a name at the first place of its spelling.
+    #[tactic(auto, using(encoding::proofs::KindColumns::columns_read))]
+    fn is_first(&self, i: usize) -> bool
+        requires { i < length (kind_numbers self.now.kinds.now) }
+        ensures { result ≡ is_first (kind_numbers self.now.kinds.now) self.now.places.now self.now.numbers.now i }
+    {
+        is_name(self.kinds[i]) & (Name::numbered(self.numbers[i]).offset == self.places[i] as usize)
+    }
+
+    // A token is a name at its first place, and was struck out.
+    fn is_found(&self, i: usize, listed: &[u16]) -> bool
+        requires in_bounds { i < length (kind_numbers self.now.kinds.now) }
+        requires places_below { PlacesBelow self.now.places.now (length listed.now) }
+        ensures { result ≡ is_found (kind_numbers self.now.kinds.now) self.now.places.now self.now.numbers.now listed.now i }
+    {
+        self.is_first(i) & (listed[self.places[i] as usize] == 0)
+    }
+
+    // Lists each name of the text at its first place.
+    #[tactic(auto, using(crate::proofs::Crossing::list_none, crate::proofs::Crossing::list_more, crate::proofs::Crossing::list_same, crate::proofs::Crossing::list_all, crate::proofs::Crossing::few_tokens))]
+    fn list(&self, listed: &mut [u16])
+        requires { PlacesBelow self.now.places.now (length listed.old) }
+        ensures { Listed (kind_numbers self.now.kinds.now) self.now.places.now self.now.numbers.now listed.new }
+    {
+        for i in 0..self.places.len() {
+            if self.is_first(i) {
+                listed[self.places[i] as usize] = (i + 1) as u16;
+            }
         }
-        i += 1;
+    }
+
+    // Writes the names that were struck out; their number.
+    #[tactic(auto, using(crate::proofs::Filling::write_start, crate::proofs::Filling::write_take, crate::proofs::Filling::write_skip, crate::proofs::Filling::write_end, crate::proofs::Filling::write_room, crate::proofs::Filling::plain_long))]
+    fn write(&self, listed: &[u16], w: &mut [u32]) -> usize
+        requires { Ready (kind_numbers self.now.kinds.now) self.now.places.now self.now.numbers.now listed.now w.old }
+        ensures { Fills (kind_numbers self.now.kinds.now) self.now.places.now self.now.numbers.now listed.now w.old result w.new }
+    {
+        let mut count = 0;
+        for i in 0..self.places.len() {
+            if self.is_found(i, listed) {
+                put_name(w, count, self.numbers[i]);
+                count += 1;
+            }
+        }
+        count
+    }
+
+    // Fills the names' part of the slice by a list that has a number for every place.
+    #[tactic(auto, using(crate::proofs::Holding::ready, crate::proofs::Holding::filled))]
+    fn fill(&self, listed: &mut [u16], w: &mut [u32], c: Cursor) -> usize
+        requires places_below { PlacesBelow self.now.places.now (length listed.old) }
+        requires plain_words { PlainWords c w.old }
+        ensures { WritesPlain (kind_numbers self.now.kinds.now) self.now.places.now self.now.numbers.now c w.old result w.new }
+    {
+        self.list(listed);
+        strike_all(w, c, self.numbers, listed);
+        self.write(listed, w)
     }
 }
 
 // Strikes out a name where it is listed: at its offset, if at all. What stands in the list elsewhere may be any number.
+#[tactic(auto, using(crate::proofs::Crossing::strike_it, crate::proofs::Crossing::strike_no), unfolding(definition::specs::Name::offset_of))]
 fn strike_name(name: u32, numbers: &[u64], listed: &mut [u16])
     ensures { Struck numbers.now (name ∷ []) listed.old listed.new }
 {
-    let slot = (name as u64 % NAME_LENGTH) as usize;
-    if slot >= listed.len() {
-        return;
-    }
-    let token = listed[slot] as usize;
-    if token == 0 {
-        return;
-    }
-    if numbers.len() < token {
-        return;
-    }
-    if numbers[token - 1] == name as u64 {
+    let name = u64::from(name);
+    let slot = Name::numbered(name).offset;
+    if let Some(listed_as) = listed.get(slot)
+        && let Some(token) = usize::from(*listed_as).checked_sub(1)
+        && let Some(number) = numbers.get(token)
+        && *number == name
+    {
         listed[slot] = 0;
-        return;
     }
 }
 
 // Strikes out the names of a region's entries.
+#[tactic(auto, using(crate::proofs::Crossing::strike_start, crate::proofs::Crossing::strike_more))]
 fn strike(w: &[u32], start: usize, width: usize, count: usize, numbers: &[u64], listed: &mut [u16])
     requires width_nonzero { 0 < width }
     requires count_in_bounds { start + width * count ≤ length w.now }
     ensures { Struck numbers.now (column w.now start width count) listed.old listed.new }
 {
-    let mut at = start;
-    let mut i = 0;
-    while i < count {
-        strike_name(w[at], numbers, listed);
-        at += width;
-        i += 1;
+    for i in 0..count {
+        strike_name(w[start + width * i], numbers, listed);
     }
 }
 
 // Strikes out every name that an entry holds.
+#[tactic(auto, using(crate::proofs::Holding::all_struck))]
 fn strike_all(w: &[u32], c: Cursor, numbers: &[u64], listed: &mut [u16])
     requires w_len { length w.now ≡ words_length }
     requires room { Room c }
@@ -124,72 +162,42 @@ fn strike_all(w: &[u32], c: Cursor, numbers: &[u64], listed: &mut [u16])
     );
 }
 
-// A token is a name at its first place, and was struck out.
-fn is_found(kind: u32, place: u32, number: u64, listed: &[u16]) -> bool
-    requires { place < length listed.now }
-    ensures { result ≡ (is_first kind place number && eqb (get_or listed.now place 0) 0) }
+// Writes a name, the next after so many.
+#[tactic(auto, unfolding(definition::specs::Name::offset_of, definition::specs::Name::length_of))]
+fn put_name(w: &mut [u32], count: usize, name: u64)
+    requires w_len { length w.old ≡ words_length }
+    requires room { count < max_names }
+    requires fits { name < 2 ^ 32 }
+    ensures { w.new ≡ set (set w.old (names_at + 2 * count) (offset_of name)) (names_at + 2 * count + 1) (length_of name) }
 {
-    is_first(kind, place, number) & (listed[place as usize] == 0)
-}
-
-// Writes the names that were struck out; their number.
-fn write(kinds: &[u32], places: &[u32], numbers: &[u64], listed: &[u16], w: &mut [u32]) -> usize
-    requires { Ready kinds.now places.now numbers.now listed.now w.old }
-    ensures { Fills kinds.now places.now numbers.now listed.now w.old result w.new }
-{
-    let mut count = 0;
-    let mut i = 0;
-    while i < kinds.len() {
-        let number = numbers[i];
-        let place = places[i];
-        if is_found(kinds[i], place, number, listed) {
-            let at = NAMES_AT + NAME_COLUMNS * count;
-            w[at] = place;
-            w[at + 1] = (number / NAME_LENGTH) as u32;
-            count += 1;
-            i += 1;
-            continue;
-        }
-        i += 1;
-    }
-    count
-}
-
-// Fills the names' part of the slice by a list that has a number for every place.
-fn fill(
-    kinds: &[u32],
-    places: &[u32],
-    numbers: &[u64],
-    listed: &mut [u16],
-    w: &mut [u32],
-    c: Cursor,
-) -> usize
-    requires columns { Columns kinds.now places.now numbers.now }
-    requires places_below { PlacesBelow places.now (length listed.old) }
-    requires plain_words { PlainWords c w.old }
-    ensures { WritesPlain kinds.now places.now numbers.now c w.old result w.new }
-{
-    list(kinds, places, numbers, listed);
-    strike_all(w, c, numbers, listed);
-    write(kinds, places, numbers, listed, w)
+    let name = Name::numbered(name);
+    let at = NAMES_AT + NAME_COLUMNS * count;
+    w[at] = name.offset as u32;
+    w[at + 1] = name.length as u32;
 }
 
 // Fills the names' part of the slice, in place of the index, with the names that the table's entries hold; their number. The columns are those of a text's tokens. The list is scratch:
 // it has a number for every place, no one reads it after, and what is left in it is free.
+#[tactic(auto, using(crate::proofs::Holding::plain_words, crate::proofs::Holding::writes))]
 pub fn fill_names(
-    kinds: &[u32],
+    kinds: &[TokenKind],
     places: &[u32],
     numbers: &[u64],
     listed: &mut [u16],
     w: &mut [u32],
     c: Cursor,
 ) -> usize
-    requires columns { Columns kinds.now places.now numbers.now }
+    requires columns { Columns (kind_numbers kinds.now) places.now numbers.now }
     requires places_below { PlacesBelow places.now (length listed.old) }
     requires held_words { HeldWords c w.old }
-    ensures writes { Writes kinds.now places.now numbers.now c w.old result w.new }
+    ensures writes { Writes (kind_numbers kinds.now) places.now numbers.now c w.old result w.new }
     ensures listed_len_unchanged { length listed.new ≡ length listed.old }
 {
     clear_index(w);
-    fill(kinds, places, numbers, listed, w, c)
+    Tokens {
+        kinds,
+        places,
+        numbers,
+    }
+    .fill(listed, w, c)
 }

@@ -97,6 +97,24 @@ not_named kind name i x q = go (eqb (kind_of x) kind) refl
     go true e = ne_eqb (row_name x) name (q (eqb-true (kind_of x) kind e))
     go false e = refl
 
+-- a search that begins where no row before has both
+module _ (kind name : ℕ) (rows : List Row) (first : ℕ) (below : (i : ℕ) → i < length rows → i < first → kind_of (get_or rows i void) ≡ kind → row_name (get_or rows i void) ≡ name → ⊥) where
+  abbrev Missed : ℕ → Type 0
+  Missed i = named_test kind name i (get_or rows i void) ≡ false
+
+  missed : (to : ℕ) → ((i : ℕ) → first ≤ i → i < to → Missed i) → (i : ℕ) → i < length rows → i < to → Missed i
+  missed to f i p q = go (ltb i first) refl
+    where
+      go : (z : Bool) → ltb i first ≡ z → Missed i
+      go true e = not_named kind name i (get_or rows i void) (below i p (ltb-true _ _ e))
+      go false e = f i (ltb-false _ _ e) q
+
+  pub named-none : ((i : ℕ) → first ≤ i → i < length rows → Missed i) → none ≡ row_named kind name 0 rows
+  named-none f = sym (named-is kind name 0 rows ∙ (look_skip (named_test kind name) rows (length rows) (missed (length rows) f) ∙ look-end (named_test kind name) rows (length rows) (omega arith)))
+
+  pub named-some : (n : ℕ) → n < length rows → named_test kind name n (get_or rows n void) ≡ true → ((i : ℕ) → first ≤ i → i < n → Missed i) → some n ≡ row_named kind name 0 rows
+  named-some n p e f = sym (named-is kind name 0 rows ∙ (look_skip (named_test kind name) rows n (missed n f) ∙ look-yes (named_test kind name) rows n p e))
+
 -- a row's numbers as they stand in the slice
 module _ {t : Table} {w : List ℕ} (h : InWords t w) (i : ℕ) (p : i < max_rows) where
   pub kind-is : get_or w (6 * i) 0 ≡ kind_of (row_at t i)

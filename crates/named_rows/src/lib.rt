@@ -9,8 +9,8 @@ ghost use Rattle.definition.specs.Composite.{tag_row};
 ghost use Rattle.definition.specs.Enumeration.{enum_tag_row};
 ghost use Rattle.definition.specs.Region.{members_at};
 ghost use Rattle.table.specs.Held.{Held, Room};
-ghost use Rattle.table.specs.Reply.{reply, Does, WordIs};
-ghost use Rattle.named_rows.specs.Finds.{Says, Finds};
+ghost use Rattle.table.specs.Reply.{reply, numbers, Does, DoesAs, WordIs};
+ghost use Rattle.named_rows.specs.Finds.{Says, Finds, first_tag_row};
 
 use encoding::regions::{ROW_COLUMNS, ROW_NAME, WORDS};
 use encoding::row_kinds::{ENUM_KIND, QUALIFIED_KIND, STRUCT_KIND, TYPEDEF_KIND, UNION_KIND};
@@ -64,12 +64,9 @@ pub fn row_named(w: &[u32], c: Cursor, kind: u32, name: u32) -> Option<u32>
     if w.len() != WORDS {
         return None;
     }
-    for i in first_named(w, kind, name)..c.rows {
-        if is_named(w, i, kind, name) {
-            return Some(i as u32);
-        }
-    }
-    None
+    let first = first_named(w, kind, name)?;
+    let i = (first..c.rows).find(|i| is_named(w, *i, kind, name))?;
+    Some(i as u32)
 }
 
 pub fn typedef_row(w: &[u32], c: Cursor, name: u32) -> Option<u32>
@@ -85,6 +82,23 @@ pub fn composite_kind(union: bool) -> u32
     if union { UNION_KIND } else { STRUCT_KIND }
 }
 
+// The row that has the kind and the name of a tag's row, or that row as a new one.
+fn first_tag_row(
+    w: &mut [u32],
+    d: &mut [u64],
+    v: &mut [i64],
+    c: Cursor,
+    row: Numbers,
+) -> Answer<u32>
+    requires { Held c w.old d.old v.old }
+    ensures { DoesAs numbers row first_tag_row c w.old d.old v.old (reply result) w.new d.new v.new }
+{
+    match row_named(w, c, row.kind, row.name) {
+        Some(n) => Ok((c, n)),
+        None => push_row(w, d, v, c, row),
+    }
+}
+
 // The row of a struct's or union's tag: the one that it has, or a new one without a body.
 pub fn tag_row(
     w: &mut [u32],
@@ -98,22 +112,15 @@ pub fn tag_row(
     ensures { Does (tag_row union name) c w.old d.old v.old (reply result) w.new d.new v.new }
 {
     let kind = composite_kind(union);
-    if let Some(n) = row_named(w, c, kind, name) {
-        return Ok((c, n));
-    }
-    push_row(
+    first_tag_row(
         w,
         d,
         v,
         c,
         Numbers {
             kind,
-            target: 0,
-            flags: 0,
             name,
-            first: 0,
-            count: 0,
-            extent: 0,
+            ..Numbers::ZERO
         },
     )
 }
@@ -130,22 +137,11 @@ pub fn enum_tag_row(
     requires { Held c w.old d.old v.old }
     ensures { Does (enum_tag_row bytes name) c w.old d.old v.old (reply result) w.new d.new v.new }
 {
-    if let Some(n) = row_named(w, c, ENUM_KIND, name) {
-        return Ok((c, n));
-    }
-    push_row(
-        w,
-        d,
-        v,
-        c,
-        Numbers {
-            kind: ENUM_KIND,
-            target: 0,
-            flags: 0,
-            name,
-            first: 0,
-            count: 0,
-            extent: bytes,
-        },
-    )
+    let row = Numbers {
+        kind: ENUM_KIND,
+        name,
+        extent: bytes,
+        ..Numbers::ZERO
+    };
+    first_tag_row(w, d, v, c, row)
 }

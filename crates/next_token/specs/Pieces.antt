@@ -9,6 +9,7 @@ use Rattle.definition.specs.Token.{Token}
 use Rattle.definition.specs.Spelling.{Spelling}
 use Rattle.definition.specs.Attribute.{attribute_at}
 use Rattle.definition.specs.Cut.{Cutting, push, push_name, push_attribute}
+use Rattle.encoding.specs.Kinds.{kind_number}
 use Rattle.encoding.specs.Refusals.{answer_by}
 use Rattle.encoding.specs.declared.refusals.Refusal.{Refusal}
 use Rattle.next_token.specs.declared.Piece.{Piece}
@@ -16,14 +17,14 @@ use Rattle.next_token.specs.declared.Piece.TheVariants.{Skip, Token as Piece-as-
 
 abbrev pub applied : Bytes → Piece → Cutting → Cutting
 applied text (Skip next line) s = record { at = next; line_start = line; tokens = s.tokens; names = s.names }
-applied text (Piece-as-Token k n next) s = push k n next s
-applied text (Name k next) s = push_name k (take (next - s.at) (from text s.at)) s
+applied text (Piece-as-Token k n next) s = push (kind_number k) n next s
+applied text (Name k next) s = push_name (kind_number k) (take (next - s.at) (from text s.at)) s
 
 -- the text goes on after a piece; a token of a name's kind is a name, and a name ends within the text
 abbrev pub Goes : Bytes → ℕ → Piece → Type 0
 Goes text at (Skip next line) = at < next
-Goes text at (Piece-as-Token k n next) = (at < next) × (is_name k ≡ false)
-Goes text at (Name k next) = (at < next) × (is_name k ≡ true) × (next ≤ length text)
+Goes text at (Piece-as-Token k n next) = (at < next) × (is_name (kind_number k) ≡ false)
+Goes text at (Name k next) = (at < next) × (is_name (kind_number k) ≡ true) × (next ≤ length text)
 
 abbrev pub state : ℕ → Bool → List Token → List Spelling → Cutting
 state at line ts ns = record { at = at; line_start = line; tokens = ts; names = ns }

@@ -7,23 +7,21 @@ ghost use Rattle.next_token.specs.Pieces.{Cuts, CutsOn, Goes, Starts, cut_attrib
 use attributes::attribute_at;
 use characters::character;
 use directives::directive;
-use encoding::ascii::{APOSTROPHE, BACKSLASH, HASH, LINE_FEED, QUOTE, SLASH, STAR};
 use encoding::refusals::{Reason, Refusal};
-use encoding::token_kinds::{ATTRIBUTE, BOOL_NAME, IDENTIFIER, NUMBER, TEXT};
+use encoding::token_kinds::TokenKind;
 use keywords::kind_of;
 use literals::number_value;
 use punctuators::{mark_at, string_end};
-use scan::{
-    Class, begins, byte_at, class_of, comment_end, is_blank, line_end, number_end, word_end,
-};
+use scan::{Class, begins, class_of, comment_end, is_blank, line_end, number_end, word_end};
+use words::classes::is_name;
 
 // A piece: nothing, with the next offset and whether a line starts there; a token, with its kind, number and the next offset;
 // or a name, with its kind and the next offset.
 #[derive(Clone, Copy)]
 pub enum Piece {
     Skip(usize, bool),
-    Token(u32, u64, usize),
-    Name(u32, usize),
+    Token(TokenKind, u64, usize),
+    Name(TokenKind, usize),
 }
 
 // The attribute whose word stands at an offset and ends at another.
@@ -35,7 +33,7 @@ fn attribute(text: &[u8], at: usize, end: usize) -> Result<Piece, Refusal>
 {
     let (layout, next) = attribute_at(text, at, end)?;
     if layout {
-        Ok(Piece::Token(ATTRIBUTE, 0, next))
+        Ok(Piece::Token(TokenKind::Attribute, 0, next))
     } else {
         Ok(Piece::Skip(next, false))
     }
@@ -50,8 +48,8 @@ pub fn word(text: &[u8], at: usize) -> Result<Piece, Refusal>
 {
     let end = word_end(text, at);
     match kind_of(&text[at..end]) {
-        ATTRIBUTE => attribute(text, at, end),
-        kind @ IDENTIFIER..=BOOL_NAME => Ok(Piece::Name(kind, end)),
+        TokenKind::Attribute => attribute(text, at, end),
+        kind if is_name(kind) => Ok(Piece::Name(kind, end)),
         kind => Ok(Piece::Token(kind, 0, end)),
     }
 }
@@ -65,7 +63,7 @@ pub fn number(text: &[u8], at: usize) -> Result<Piece, Refusal>
 {
     let end = number_end(text, at);
     let value = number_value(&text[at..end], at)?;
-    Ok(Piece::Token(NUMBER, value, end))
+    Ok(Piece::Token(TokenKind::Number, value, end))
 }
 
 // The character constant that stands at an offset.
@@ -76,7 +74,7 @@ pub fn constant(text: &[u8], at: usize) -> Result<Piece, Refusal>
     ensures goes { IfOk result (Goes text.now at) }
 {
     let (value, next) = character(text, at)?;
-    Ok(Piece::Token(NUMBER, value, next))
+    Ok(Piece::Token(TokenKind::Number, value, next))
 }
 
 // The string that stands at an offset.
@@ -93,7 +91,7 @@ pub fn string(text: &[u8], at: usize) -> Result<Piece, Refusal>
             at,
         });
     }
-    Ok(Piece::Token(TEXT, 0, end + 1))
+    Ok(Piece::Token(TokenKind::Text, 0, end + 1))
 }
 
 // The mark that stands at an offset.
@@ -103,29 +101,27 @@ pub fn mark(text: &[u8], at: usize) -> Result<Piece, Refusal>
     ensures value { Cuts (cut_mark text.now) text.now at result }
     ensures goes { IfOk result (Goes text.now at) }
 {
-    let Some(m) = mark_at(text, at) else {
-        return Err(Refusal {
-            reason: Reason::StrayByte,
-            at,
-        });
-    };
+    let m = mark_at(text, at).ok_or(Refusal {
+        reason: Reason::StrayByte,
+        at,
+    })?;
     Ok(Piece::Token(m.kind, 0, at + m.size))
 }
 
 // What stands at an offset and is no blank.
-#[tactic(auto, unfolding(definition::specs::Cut::cut_token))]
+#[tactic(auto, using(scan::proofs::Going::inside), unfolding(definition::specs::Cut::cut_token))]
 pub fn token(text: &[u8], at: usize) -> Result<Piece, Refusal>
     requires { at < length text.now }
     ensures value { Cuts (cut_token text.now) text.now at result }
     ensures goes { IfOk result (Goes text.now at) }
 {
-    let b = byte_at(text, at);
-    match class_of(b) {
+    let b = text[at];
+    match class_of(u32::from(b)) {
         Class::Letter => word(text, at),
         Class::Digit => number(text, at),
         _ => match b {
-            APOSTROPHE => constant(text, at),
-            QUOTE => string(text, at),
+            b'\'' => constant(text, at),
+            b'"' => string(text, at),
             _ => mark(text, at),
         },
     }
@@ -149,56 +145,50 @@ pub fn comment(text: &[u8], at: usize, line: bool) -> Result<Piece, Refusal>
 }
 
 // The # line at an offset.
-#[tactic(auto, unfolding(definition::specs::Cut::cut_directive, definition::specs::Cut::skip_to))]
+#[tactic(auto, using(crate::proofs::Steps::answers), unfolding(definition::specs::Cut::cut_directive, definition::specs::Cut::skip_to))]
 pub fn hash_line(text: &[u8], at: usize, line: bool) -> Result<Piece, Refusal>
     requires { at < length text.now }
     ensures value { CutsOn (cut_directive text.now) text.now at line result }
     ensures goes { IfOk result (Goes text.now at) }
 {
-    let decided = directive(text, at);
-    if decided.keeps {
-        return Err(Refusal {
-            reason: Reason::MacroLine,
-            at,
-        });
-    }
-    Ok(Piece::Skip(decided.next, line))
+    let next = directive(text, at)?;
+    Ok(Piece::Skip(next, line))
 }
 
 // A comment, a # line or a token.
-#[tactic(auto, unfolding(definition::specs::Cut::cut_other, definition::specs::Cut::skip_to, definition::specs::Comment::joins, definition::specs::Comment::opens_line_comment, definition::specs::Comment::opens_comment))]
+#[tactic(auto, using(scan::proofs::Going::inside), unfolding(definition::specs::Cut::cut_other, definition::specs::Cut::skip_to, definition::specs::Comment::joins, definition::specs::Comment::opens_line_comment, definition::specs::Comment::opens_comment))]
 pub fn other(text: &[u8], at: usize, line: bool) -> Result<Piece, Refusal>
     requires { at < length text.now }
     ensures value { CutsOn (cut_other text.now) text.now at line result }
     ensures goes { IfOk result (Goes text.now at) }
 {
-    if begins(text, at, BACKSLASH, LINE_FEED) {
+    if begins(text, at, b'\\', b'\n') {
         return Ok(Piece::Skip(at + 2, line));
     }
-    if begins(text, at, SLASH, SLASH) {
+    if begins(text, at, b'/', b'/') {
         return Ok(Piece::Skip(line_end(text, at), line));
     }
-    if begins(text, at, SLASH, STAR) {
+    if begins(text, at, b'/', b'*') {
         return comment(text, at, line);
     }
-    if line && byte_at(text, at) == HASH {
+    if line && text[at] == b'#' {
         return hash_line(text, at, line);
     }
     token(text, at)
 }
 
 // What stands at an offset.
-#[tactic(auto, unfolding(definition::specs::Cut::cut_next, definition::specs::Cut::new_line, definition::specs::Cut::skip_to))]
+#[tactic(auto, using(scan::proofs::Going::inside), unfolding(definition::specs::Cut::cut_next, definition::specs::Cut::new_line, definition::specs::Cut::skip_to))]
 pub fn next(text: &[u8], at: usize, line: bool) -> Result<Piece, Refusal>
     requires { at < length text.now }
     ensures value { CutsOn (cut_next text.now) text.now at line result }
     ensures goes { IfOk result (Goes text.now at) }
 {
-    let b = byte_at(text, at);
-    if b == LINE_FEED {
+    let b = text[at];
+    if b == b'\n' {
         return Ok(Piece::Skip(at + 1, true));
     }
-    if is_blank(b) {
+    if is_blank(u32::from(b)) {
         return Ok(Piece::Skip(at + 1, line));
     }
     other(text, at, line)

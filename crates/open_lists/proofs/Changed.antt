@@ -2,13 +2,14 @@
 use mathlib.Core.Path.{◌≡◌, refl, sym, ap, subst, ◌∙◌}
 use mathlib.Core.Bool.{Bool, true, false}
 use mathlib.Core.List.{List, [], ◌∷◌}
-use Prim.Native.Nat.{ℕ, zero, suc, ◌+◌, ◌≤◌, ◌<◌}
+use Prim.Native.Nat.{ℕ, zero, suc, ◌+◌, ◌-◌, ◌≤◌, ◌<◌}
 use native.Mathlib.Omega.{arith}
 use native.Mathlib.Numerals.{add-one}
 use lib.Dec.{eqb}
 use lib.IntN.{ℤ}
 use lib.ListN.{length, get_or, set, drop, drop_of_length-le}
-use borrow.Author.Tests.{eq-eqb, ne_eqb}
+use borrow.Author.Tests.{eq-eqb, ne_eqb, eqb-true, eqb-false}
+use Rattle.std.specs.List.{filter, range_with_len}
 use Rattle.definition.specs.Table.{Table, Member}
 use Rattle.definition.specs.Types.{changed_if, changed_from}
 use Rattle.definition.specs.Composite.{how_many_carry}
@@ -96,14 +97,23 @@ module _ {E : Type 0} (k : Kind E) (n : ℕ) {count : Table → ℕ} {c : Cursor
 
 -- the entries that carry a mark, counted from entry i on
 module _ (mark : ℕ) (es : List Member) (i : ℕ) where
-  pub count-hit : i < length es → (get_or es i no_member).row ≡ mark → how_many_carry mark (drop i es) ≡ suc (how_many_carry mark (drop (i + 1) es))
+  count-hit : i < length es → (get_or es i no_member).row ≡ mark → how_many_carry mark (drop i es) ≡ suc (how_many_carry mark (drop (i + 1) es))
   unfolding how_many_carry
   count-hit p q = rw (drop-next es i no_member p) (yes (eqb (get_or es i no_member).row mark) _ _ (eq-eqb _ _ q))
 
-  pub count-miss : i < length es → ((get_or es i no_member).row ≡ mark → ⊥) → how_many_carry mark (drop i es) ≡ how_many_carry mark (drop (i + 1) es)
+  count-miss : i < length es → ((get_or es i no_member).row ≡ mark → ⊥) → how_many_carry mark (drop i es) ≡ how_many_carry mark (drop (i + 1) es)
   unfolding how_many_carry
   count-miss p q = rw (drop-next es i no_member p) (nay (eqb (get_or es i no_member).row mark) _ _ (ne_eqb _ _ q))
 
 pub count-end : (mark : ℕ) (es : List Member) (i : ℕ) → length es ≤ i → how_many_carry mark (drop i es) ≡ 0
 unfolding how_many_carry
 count-end mark es i p = rw (drop_of_length-le es p)
+
+pub counted : (mark : ℕ) (es : List Member) (n i : ℕ) → n ≡ length es - i → length (filter (λ k. eqb (get_or es k no_member).row mark) (range_with_len i n)) ≡ how_many_carry mark (drop i es)
+counted mark es zero i e = sym (count-end mark es i (omega arith))
+counted mark es (suc n) i e = go (counted mark es n (i + 1) (omega arith)) (eqb (get_or es i no_member).row mark) refl
+  where
+    go : length (filter (λ k. eqb (get_or es k no_member).row mark) (range_with_len (i + 1) n)) ≡ how_many_carry mark (drop (i + 1) es) → (z : Bool) → eqb (get_or es i no_member).row mark ≡ z
+        → length (filter (λ k. eqb (get_or es k no_member).row mark) (range_with_len i (suc n))) ≡ how_many_carry mark (drop i es)
+    go f true q = rw q (ap suc f ∙ sym (count-hit mark es i (omega arith) (eqb-true _ _ q)))
+    go f false q = rw q (f ∙ sym (count-miss mark es i (omega arith) (eqb-false _ _ q)))

@@ -1,10 +1,9 @@
 #![tactic(auto)]
 // Entries get their row. While a list is read its entries carry the mark of the list; then they get the row that it is of, or row 0.
 ghost use Rattle.std.specs.Prelude.{◌≡◌, length, get_or, set, drop};
-ghost use Rattle.definition.specs.Table.{Member, Value, Parameter, row_at, with_members, with_values, with_parameters, mark_of};
+ghost use Rattle.definition.specs.Table.{Member, Value, Parameter, row_at, with_members, with_parameters, mark_of};
 ghost use Rattle.definition.specs.Row.{span_of};
-ghost use Rattle.definition.specs.Composite.{own_members, fields_only, release_members, how_many_carry};
-ghost use Rattle.definition.specs.Enumeration.{own_values, release_values};
+ghost use Rattle.definition.specs.Composite.{fields_only, how_many_carry};
 ghost use Rattle.definition.specs.Declarator.{own_parameters};
 ghost use Rattle.definition.specs.Region.{words_length};
 ghost use Rattle.table.specs.Held.{Room};
@@ -17,13 +16,10 @@ use table::{
     set_value_row, value_row,
 };
 
-// The number of a bit-field's width 0: one more than it.
-const WIDTH_ZERO: u32 = 1;
-
 // ---- kinds of entries
 
 // A kind of entries: how many there are, and the row that each carries.
-trait Entries {
+pub trait Entries {
     ghost Entry: { Type 0 };
 
     ghost kind: { Kind Entry };
@@ -40,7 +36,7 @@ trait Entries {
         ensures { ChangesWords (λ t. kind.with t (set (kind.of t) i (kind.with_row (get_or (kind.of t) i kind.blank) row))) c w.old w.new };
 }
 
-struct Members;
+pub struct Members;
 
 impl Entries for Members {
     ghost Entry = { Member };
@@ -61,7 +57,7 @@ impl Entries for Members {
 }
 
 // Members of width 0, which are no fields; the others count as carrying no row.
-struct ZeroWidths;
+pub struct ZeroWidths;
 
 impl Entries for ZeroWidths {
     ghost Entry = { Member };
@@ -73,7 +69,7 @@ impl Entries for ZeroWidths {
     }
 
     fn carries(w: &[u32], i: usize, row: u32) -> bool {
-        member_row(w, i) == row && member_width(w, i) == WIDTH_ZERO
+        member_row(w, i) == row && matches!(member_width(w, i), Some(0))
     }
 
     fn set_row(w: &mut [u32], c: Cursor, i: usize, row: u32) {
@@ -81,7 +77,7 @@ impl Entries for ZeroWidths {
     }
 }
 
-struct Values;
+pub struct Values;
 
 impl Entries for Values {
     ghost Entry = { Value };
@@ -101,7 +97,7 @@ impl Entries for Values {
     }
 }
 
-struct Parameters;
+pub struct Parameters;
 
 impl Entries for Parameters {
     ghost Entry = { Parameter };
@@ -134,7 +130,7 @@ fn rerow<E: Entries>(w: &mut [u32], c: Cursor, from: usize, old: u32, row: u32)
 }
 
 // The entries of a list, from number `first` on, get its row.
-fn own<E: Entries>(w: &mut [u32], c: Cursor, first: u32, row: u32)
+pub fn own<E: Entries>(w: &mut [u32], c: Cursor, first: u32, row: u32)
     requires { (length w.old ≡ words_length) × Room c }
     ensures { ChangesWords (rerowed E.kind first (mark_of first) row) c w.old w.new }
 {
@@ -145,7 +141,7 @@ fn own<E: Entries>(w: &mut [u32], c: Cursor, first: u32, row: u32)
 }
 
 // The entries of row n, whose body is replaced, get row 0.
-fn release<E: Entries>(w: &mut [u32], c: Cursor, n: u32)
+pub fn release<E: Entries>(w: &mut [u32], c: Cursor, n: u32)
     requires { (length w.old ≡ words_length) × Room c }
     ensures { ChangesWords (λ t. released E.kind n (span_of (row_at t n)).count t) c w.old w.new }
 {
@@ -155,24 +151,6 @@ fn release<E: Entries>(w: &mut [u32], c: Cursor, n: u32)
 }
 
 // ---- what the definition names
-
-// The fields of a body, from number `first` on, get its row.
-#[tactic(auto, unfolding(definition::specs::Composite::own_members))]
-pub fn own_members(w: &mut [u32], c: Cursor, first: u32, row: u32)
-    requires { (length w.old ≡ words_length) × Room c }
-    ensures { ChangesWords (λ t. with_members t (own_members first row t.members)) c w.old w.new }
-{
-    own::<Members>(w, c, first, row);
-}
-
-// The members of row n, whose body is replaced, get row 0.
-#[tactic(auto, unfolding(definition::specs::Composite::release_members))]
-pub fn release_members(w: &mut [u32], c: Cursor, n: u32)
-    requires { (length w.old ≡ words_length) × Room c }
-    ensures { ChangesWords (λ t. with_members t (release_members (row_at t n) n t.members)) c w.old w.new }
-{
-    release::<Members>(w, c, n);
-}
 
 // Of the members of a body, from number `first` on, those of width 0 get row 0: they are no fields.
 #[tactic(auto, unfolding(definition::specs::Composite::fields_only))]
@@ -193,31 +171,9 @@ pub fn field_count(w: &[u32], c: Cursor, first: u32) -> u32
         return 0;
     }
     let mark = OPEN_LIST + first;
-    let mut fields = 0;
-    for i in from..c.members {
-        if member_row(w, i) == mark {
-            fields += 1;
-        }
-    }
-    fields
-}
-
-// The values of an enum, from number `first` on, get its row.
-#[tactic(auto, unfolding(definition::specs::Enumeration::own_values))]
-pub fn own_values(w: &mut [u32], c: Cursor, first: u32, row: u32)
-    requires { (length w.old ≡ words_length) × Room c }
-    ensures { ChangesWords (λ t. with_values t (own_values first row t.values)) c w.old w.new }
-{
-    own::<Values>(w, c, first, row);
-}
-
-// The values of row n, whose body is replaced, get row 0.
-#[tactic(auto, unfolding(definition::specs::Enumeration::release_values))]
-pub fn release_values(w: &mut [u32], c: Cursor, n: u32)
-    requires { (length w.old ≡ words_length) × Room c }
-    ensures { ChangesWords (λ t. with_values t (release_values (row_at t n) n t.values)) c w.old w.new }
-{
-    release::<Values>(w, c, n);
+    (from..c.members)
+        .filter(|i| member_row(w, *i) == mark)
+        .count() as u32
 }
 
 // The parameters of a list, from number `first` on, get its row.

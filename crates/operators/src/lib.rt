@@ -4,78 +4,79 @@ ghost use Rattle.std.specs.Prelude.{◌≡◌};
 ghost use Rattle.std.proofs.Math.Option.{some};
 ghost use Rattle.definition.specs.Range.{exact};
 ghost use Rattle.definition.specs.Arithmetic.{precedence, operator, is_prefix, prefixed};
+ghost use Rattle.encoding.specs.Kinds.{kind_number};
 ghost use Rattle.arithmetic.specs.Outcome.{answer};
 
-use arithmetic::ArithmeticError;
-use encoding::token_kinds::{
-    AMPERSAND, AND_AND, BANG, BAR, CARET, EQUAL_EQUAL, GREATER, GREATER_EQUAL, LESS, LESS_EQUAL,
-    MINUS, NOT_EQUAL, OR_OR, PERCENT, PLUS, SHIFT_LEFT, SHIFT_RIGHT, SLASH, STAR, TILDE,
-};
+use arithmetic::{ArithmeticError, SIGN_PLACE};
+use encoding::token_kinds::TokenKind;
 
 // How tightly an operator binds; 0 for what is none.
 #[tactic(auto, unfolding(definition::specs::Arithmetic::precedence, definition::specs::Arithmetic::operator_in, definition::specs::Arithmetic::operators))]
-pub fn precedence_of(kind: u32) -> u32
-    ensures { result ≡ precedence kind }
+pub fn precedence_of(kind: TokenKind) -> u32
+    ensures { result ≡ precedence (kind_number kind) }
 {
     match kind {
-        OR_OR => 1,
-        AND_AND => 2,
-        BAR => 3,
-        CARET => 4,
-        AMPERSAND => 5,
-        EQUAL_EQUAL | NOT_EQUAL => 6,
-        LESS | GREATER | LESS_EQUAL | GREATER_EQUAL => 7,
-        SHIFT_LEFT | SHIFT_RIGHT => 8,
-        PLUS | MINUS => 9,
-        STAR | SLASH | PERCENT => 10,
+        TokenKind::OrOr => 1,
+        TokenKind::AndAnd => 2,
+        TokenKind::Bar => 3,
+        TokenKind::Caret => 4,
+        TokenKind::Ampersand => 5,
+        TokenKind::EqualEqual | TokenKind::NotEqual => 6,
+        TokenKind::Less | TokenKind::Greater | TokenKind::LessEqual | TokenKind::GreaterEqual => 7,
+        TokenKind::ShiftLeft | TokenKind::ShiftRight => 8,
+        TokenKind::Plus | TokenKind::Minus => 9,
+        TokenKind::Star | TokenKind::Slash | TokenKind::Percent => 10,
         _ => 0,
     }
 }
 
 // The value of an operator between two sides; the left side for what is none.
-#[tactic(auto, using(arithmetic::proofs::Told::tests), unfolding(definition::specs::Arithmetic::operator, definition::specs::Arithmetic::operator_in, definition::specs::Arithmetic::operators, definition::specs::Arithmetic::left_side))]
-pub fn operate(kind: u32, a: i64, b: i64) -> Result<i64, ArithmeticError>
-    ensures { answer result ≡ exact (operator kind a b) }
+#[tactic(auto, using(arithmetic::proofs::Told::tests), unfolding(definition::specs::Arithmetic::operator, definition::specs::Arithmetic::operator_in, definition::specs::Arithmetic::operators, definition::specs::Arithmetic::left_side, definition::specs::Arithmetic::either, definition::specs::Arithmetic::both, definition::specs::Arithmetic::bits_or, definition::specs::Arithmetic::bits_xor, definition::specs::Arithmetic::bits_and, definition::specs::Arithmetic::equal, definition::specs::Arithmetic::unequal, definition::specs::Arithmetic::less, definition::specs::Arithmetic::greater, definition::specs::Arithmetic::at_most, definition::specs::Arithmetic::at_least, definition::specs::Arithmetic::shift_right))]
+pub fn operate(kind: TokenKind, a: i64, b: i64) -> Result<i64, ArithmeticError>
+    ensures { answer result ≡ exact (operator (kind_number kind) a b) }
 {
     match kind {
-        OR_OR => arithmetic::either_true(a, b),
-        AND_AND => arithmetic::both_true(a, b),
-        BAR => arithmetic::bit_or(a, b),
-        CARET => arithmetic::bit_xor(a, b),
-        AMPERSAND => arithmetic::bit_and(a, b),
-        EQUAL_EQUAL => arithmetic::equal_to(a, b),
-        NOT_EQUAL => arithmetic::unequal_to(a, b),
-        LESS => arithmetic::less_than(a, b),
-        GREATER => arithmetic::greater_than(a, b),
-        LESS_EQUAL => arithmetic::at_most(a, b),
-        GREATER_EQUAL => arithmetic::at_least(a, b),
-        SHIFT_LEFT => arithmetic::shl(a, b),
-        SHIFT_RIGHT => arithmetic::shr(a, b),
-        PLUS => arithmetic::add(a, b),
-        MINUS => arithmetic::sub(a, b),
-        STAR => arithmetic::mul(a, b),
-        SLASH => arithmetic::div(a, b),
-        PERCENT => arithmetic::rem(a, b),
+        TokenKind::OrOr => Ok(i64::from((a != 0) | (b != 0))),
+        TokenKind::AndAnd => Ok(i64::from((a != 0) & (b != 0))),
+        TokenKind::Bar => Ok(a | b),
+        TokenKind::Caret => Ok(a ^ b),
+        TokenKind::Ampersand => Ok(a & b),
+        TokenKind::EqualEqual => Ok(i64::from(a == b)),
+        TokenKind::NotEqual => Ok(i64::from(a != b)),
+        TokenKind::Less => Ok(i64::from(a < b)),
+        TokenKind::Greater => Ok(i64::from(a > b)),
+        TokenKind::LessEqual => Ok(i64::from(a <= b)),
+        TokenKind::GreaterEqual => Ok(i64::from(a >= b)),
+        TokenKind::ShiftLeft => arithmetic::shl(a, b),
+        TokenKind::ShiftRight => Ok(a >> arithmetic::shift_count(b).min(SIGN_PLACE)),
+        TokenKind::Plus => arithmetic::add(a, b),
+        TokenKind::Minus => arithmetic::sub(a, b),
+        TokenKind::Star => arithmetic::mul(a, b),
+        TokenKind::Slash => arithmetic::div(a, b),
+        TokenKind::Percent => arithmetic::rem(a, b),
         _ => Ok(a),
     }
 }
 
 #[tactic(auto, unfolding(definition::specs::Arithmetic::is_prefix, definition::specs::Arithmetic::prefix_in, definition::specs::Arithmetic::prefixes))]
-pub fn is_prefix(kind: u32) -> bool
-    ensures { result ≡ is_prefix kind }
+pub fn is_prefix(kind: TokenKind) -> bool
+    ensures { result ≡ is_prefix (kind_number kind) }
 {
-    matches!(kind, MINUS | PLUS | TILDE | BANG)
+    matches!(
+        kind,
+        TokenKind::Minus | TokenKind::Plus | TokenKind::Tilde | TokenKind::Bang
+    )
 }
 
 // The value of a prefix before an operand; the operand as it is for `+`, and for what is none.
-#[tactic(auto, using(arithmetic::proofs::Told::tests), unfolding(definition::specs::Arithmetic::prefixed, definition::specs::Arithmetic::prefix_in, definition::specs::Arithmetic::prefixes, definition::specs::Arithmetic::unchanged))]
-pub fn prefix(kind: u32, a: i64) -> Result<i64, ArithmeticError>
-    ensures { answer result ≡ exact (some (prefixed kind a)) }
+#[tactic(auto, using(arithmetic::proofs::Told::tests), unfolding(definition::specs::Arithmetic::prefixed, definition::specs::Arithmetic::prefix_in, definition::specs::Arithmetic::prefixes, definition::specs::Arithmetic::unchanged, definition::specs::Arithmetic::is_false))]
+pub fn prefix(kind: TokenKind, a: i64) -> Result<i64, ArithmeticError>
+    ensures { answer result ≡ exact (some (prefixed (kind_number kind) a)) }
 {
     match kind {
-        MINUS => arithmetic::neg(a),
-        TILDE => arithmetic::not(a),
-        BANG => arithmetic::is_false(a),
+        TokenKind::Minus => arithmetic::neg(a),
+        TokenKind::Tilde => Ok(!a),
+        TokenKind::Bang => Ok(i64::from(a == 0)),
         _ => Ok(a),
     }
 }

@@ -1,16 +1,18 @@
 #![tactic(auto)]
 // The entries of a parameter list, and its end.
 ghost use Rattle.std.specs.Prelude.{◌≤◌};
+ghost use Rattle.encoding.specs.Kinds.{kind_number, kind_numbers};
 ghost use Rattle.definition.specs.Limit.{max_parameters};
 ghost use Rattle.table.specs.Held.{Held};
 ghost use Rattle.table.specs.Reply.{reply, Does};
 ghost use Rattle.parameter_entries.specs.Parameters.{Closes, VoidList, added_parameter};
 
+use declarator_steps::Step;
 use derived_types::adjusted;
 use encoding::names::NO_NAME;
-use encoding::refusals::{Reason, Refusal};
 use encoding::regions::OPEN_LIST;
-use encoding::token_kinds::CLOSE_PAREN;
+use encoding::span::Span;
+use encoding::token_kinds::TokenKind;
 use table::{Answer, Cursor, kind_at, push_parameter};
 
 // The row of void.
@@ -18,32 +20,24 @@ const VOID_ROW: u32 = 0;
 
 // The end of a list of n parameters.
 pub fn parameters_end(
-    kinds: &[u32],
+    kinds: &[TokenKind],
     c: Cursor,
     varargs: bool,
     first: u32,
     n: u32,
-) -> Answer<declarator_steps::Step>
-    ensures { Closes kinds.now varargs first n c result }
+) -> Answer<Step>
+    ensures { Closes (kind_numbers kinds.now) varargs first n c result }
 {
-    let at = c.at;
-    if kind_at(kinds, at) != CLOSE_PAREN {
-        return Err(Refusal {
-            reason: Reason::MissingMark,
-            at,
-        });
-    }
-    Ok((
-        c.moved(at + 1),
-        declarator_steps::Step::function(varargs, first, n),
-    ))
+    let e = c.past(kinds, TokenKind::CloseParen)?;
+    let parameters = Span { first, count: n };
+    Ok((e, Step::Function(varargs, parameters)))
 }
 
 // `( void )` alone is an empty list, and no parameter: it is asked after a parameter was read, the n-th from 0.
-pub fn is_void_list(kinds: &[u32], c: Cursor, n: u32, name: u32, ty: u32) -> bool
-    ensures { VoidList kinds.now n name ty c result }
+pub fn is_void_list(kinds: &[TokenKind], c: Cursor, n: u32, name: u32, ty: u32) -> bool
+    ensures { VoidList (kind_numbers kinds.now) n name ty c result }
 {
-    n == 0 && name == NO_NAME && ty == VOID_ROW && kind_at(kinds, c.at) == CLOSE_PAREN
+    n == 0 && name == NO_NAME && ty == VOID_ROW && kind_at(kinds, c.at) == TokenKind::CloseParen
 }
 
 // A parameter that was read from the token `at` on becomes the next entry of the list whose first is `first`.

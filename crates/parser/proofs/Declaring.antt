@@ -41,10 +41,11 @@ use Rattle.table.proofs.Branch.{by, yes!, nay! }
 use Rattle.lemmas.proofs.Branch.{yes, nay}
 use Rattle.table.proofs.Rounds.{Going, starts, turn}
 use Rattle.table.proofs.Shown.{got!, no!, call, next, exit, refuse, held_at, held_on, held_next, step-on}
-use Rattle.table.proofs.Steps.{there, ate, missed}
+use Rattle.table.proofs.Steps.{there}
+use Rattle.table.specs.Marks.{Passes}
 use Rattle.constants.specs.Reading.{tokens}
 use Rattle.declarator_steps.specs.declared.Steps.{Steps}
-use Rattle.declarator_steps.specs.declared.Step.{Step as Kept}
+use Rattle.declarator_steps.specs.declared.Step.{Step}
 use Rattle.declarator_steps.specs.Pending.{step_of, steps_from, pending, no_steps, with_step, released, Waiting}
 use Rattle.declarator_steps.proofs.Views.{length-steps, length-stars, len_is, held-is, none-pending, push-counts, release_counts}
 use Rattle.declarator_heads.specs.declared.Starred.{Starred}
@@ -278,18 +279,18 @@ module _ (ks ns : List ℕ) (m : Model) (room : ℕ) {c : Cursor} {s : Steps} {w
         pub inner-stop : (j : Refusal) → t.answer ≡ Err j → Declares ((levels (tokens ks ns) m room).direct s.held) c s w d v t w₁ d₁ v₁
         inner-stop j y = stops j y (λ b h. by (inner-is b h) (refuse _ (step-on k g.does h) (refused-is t y) refl))
 
-        module _ {e' : Cursor} {name j : ℕ} (y : t.answer ≡ Ok (e', name)) (p : Peek ks e'.at j) where
-          pub not_closed_lem : {r : Declared} → (j ≡ close_paren → ⊥) → r.answer ≡ Err (record { reason = MissingMark; at = e'.at }) → Declares ((levels (tokens ks ns) m room).direct s.held) c s w d v r w₁ d₁ v₁
-          not_closed_lem n l = stops _ l (λ b h. by (inner-is b h) (call _ (step-on k g.does h) (declared_is t y) (λ b₁ h₁. missed (tokens ks ns) (state e' b₁) _ p n (no! h₁ refl))))
+        module _ {e' : Cursor} {name : ℕ} (y : t.answer ≡ Ok (e', name)) where
+          pub not_closed_lem : {r : Declared} (j : Refusal) → Passes ks close_paren e' (Err j) → r.answer ≡ Err j → Declares ((levels (tokens ks ns) m room).direct s.held) c s w d v r w₁ d₁ v₁
+          not_closed_lem j p l = stops j l (λ b h. by (inner-is b h) (call _ (step-on k g.does h) (declared_is t y) (λ b₁ h₁. refuse _ ((p.with ns _ _ _).run b₁ h₁) refl refl)))
 
-          pub closed : {e'' : Cursor} {r : Declared} {w' d' : List ℕ} {v' : List ℤ} → j ≡ close_paren → e'' ≡ moved_to e' (e'.at + 1)
+          pub closed : {e'' : Cursor} {r : Declared} {w' d' : List ℕ} {v' : List ℤ} → Passes ks close_paren e' (Ok e'')
               → Declares (suffixes (tokens ks ns) m (levels (tokens ks ns) m (room - 1)) t.steps.held (declarator_of t.steps name)) e'' t.steps w₁ d₁ v₁ r w' d' v'
               → Declares ((levels (tokens ks ns) m room).direct s.held) c s w d v r w' d' v'
-          closed {e''} {r} {w'} {d'} {v'} l k' f =
+          closed {e''} {r} {w'} {d'} {v'} p f =
               let n : t.steps.held ≡ s.held = same-held t.steps s (g.stars e' name y) in
               let a = subst (λ (i : ℕ). Does (suffixes (tokens ks ns) m (levels (tokens ks ns) m (room - 1)) i (declarator_of t.steps name)) e'' w₁ d₁ v₁ (declaring r) w' d' v') n f.does in
               record {
-                does = record { run = λ b h. by (inner-is b h) (call _ (step-on k g.does h) (declared_is t y) (λ b₁ h₁. ate (tokens ks ns) (state e' b₁) _ p l (step-on k' a h₁))) };
+                does = record { run = λ b h. by (inner-is b h) (call _ (step-on k g.does h) (declared_is t y) (λ b₁ h₁. call _ ((p.with ns _ _ _).run b₁ h₁) refl (λ b₂ h₂. a.run b₂ h₂))) };
                 stars = λ a₁ b₁ j₁. f.stars a₁ b₁ j₁ ∙ g.stars e' name y;
                 waits = λ a₁ b₁ j₁. subst (λ (i : ℕ). Waiting r.steps i) n (f.waits a₁ b₁ j₁);
               }
@@ -373,7 +374,7 @@ module _ {ks ns : List ℕ} {m : Model} {room name : ℕ} {c : Cursor} {s : Step
               → Declares (suffixes (tokens ks ns) m (levels (tokens ks ns) m room) s.held (declarator_of s name)) c s w₀ d₀ v₀ r w' d' v'
           suffix-stop j f z = stops j z (λ b h. turn (g.going b h) (λ b₁ l j h₁. by (made-is l (state here b₁) (sym p.is) a low) (refuse _ (step-on i (here-step f) h₁) refl refl)))
 
-          module _ {e' : Cursor} (y : Kept) (f : Does (suffix_step (tokens ks ns) m (levels (tokens ks ns) m room) k) c' w d v (ok e' (step_of y)) w' d' v') where
+          module _ {e' : Cursor} (y : Step) (f : Does (suffix_step (tokens ks ns) m (levels (tokens ks ns) m room) k) c' w d v (ok e' (step_of y)) w' d' v') where
             pub suffix-held : Held e' w' d' v'
             suffix-held = held_next f (held_at i g.held)
 

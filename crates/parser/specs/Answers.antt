@@ -9,17 +9,11 @@ use Rattle.definition.specs.Model.{Model}
 use Rattle.definition.specs.Reader.{levels}
 use Rattle.table.specs.Reply.{Reply, reply_by, Nothing, Does, Moves, Runs}
 use Rattle.table.specs.declared.Cursor.{Cursor}
-use Rattle.naming.specs.Names.{NamesFit}
 use Rattle.declarator_steps.specs.declared.Steps.{Steps}
 use Rattle.declarator_steps.specs.Pending.{pending, Waiting}
 use Rattle.parser.specs.Pieces.{typed_from}
 use Rattle.parser.specs.declared.Declared.{Declared}
 use Rattle.parser.specs.declared.Typed.{Typed}
-
--- Tokens as the lexer gives them: names fit in 32 bits, and there are no more tokens than bytes.
-pub record Readable (kinds numbers : List ℕ) : Type 0 where
-  pub names : NamesFit kinds numbers
-  pub few : length kinds ≤ max_text
 
 -- a type and a name
 abbrev pub typed : Typed → ℕ × ℕ

@@ -1,8 +1,9 @@
 -- What the code's values are as words.
-use Rattle.std.specs.Prelude.{ℕ, Option, Some, None}
+use Rattle.std.specs.Prelude.{Option, Some, None}
 use Rattle.definition.specs.Text.{Bytes}
-use Rattle.definition.specs.Listing.{decimal, dash}
+use Rattle.definition.specs.Listing.{dash}
 
-abbrev pub or_dash_of : Option ℕ → Bytes
-or_dash_of (Some x) = decimal x
-or_dash_of None = dash
+-- a word, or a dash where there is none
+abbrev pub or_dash_of : {W : Type 0} → (W → Bytes) → Option W → Bytes
+or_dash_of bytes (Some x) = bytes x
+or_dash_of bytes None = dash

@@ -17,41 +17,68 @@ const DASH: u8 = b'-';
 
 const TEN: u64 = 10;
 
-pub fn put_byte(out: &mut [u8], n: usize, b: u8) -> usize
-    ensures { Wrote (b ∷ []) out.old n out.new result }
-{
-    if n < out.len() {
-        out[n] = b;
-        return n + 1;
-    }
-    n.saturating_add(1)
+// A lent buffer, and the place in it that is written next.
+#[derive(Drop)]
+pub struct Writer<'a> {
+    pub buffer: &'a mut [u8],
+    pub at: usize,
 }
 
-// A word of a line. It is written from place n on, and the answer is the place after it.
+// A word of a line.
 pub trait Word {
     ghost bytes: { Self → List ℕ };
 
-    fn put(self, out: &mut [u8], n: usize) -> usize
-        ensures { Wrote (bytes self) out.old n out.new result };
+    fn put(self, out: &mut Writer<'_>)
+        ensures { Writes (bytes self) out.old out.new };
+}
+
+impl Writer<'_> {
+    pub fn put_byte(&mut self, b: u8)
+        ensures { Writes (b ∷ []) self.old self.new }
+    {
+        let at = self.at;
+        self.at = at.saturating_add(1);
+        if at < self.buffer.len() {
+            self.buffer[at] = b;
+        }
+    }
+
+    pub fn put<W: Word>(&mut self, word: W)
+        ensures { Writes (W.bytes word) self.old self.new }
+    {
+        word.put(self);
+    }
+
+    // A word after a space.
+    pub fn next<W: Word>(&mut self, word: W)
+        ensures { Writes (space ∷ W.bytes word) self.old self.new }
+    {
+        self.put_byte(SPACE);
+        word.put(self);
+    }
+
+    pub fn end_line(&mut self)
+        ensures { Writes (line_feed ∷ []) self.old self.new }
+    {
+        self.put_byte(LINE_FEED);
+    }
 }
 
 impl Word for &[u8] {
     ghost bytes = { λ s. s.now };
 
-    fn put(self, out: &mut [u8], n: usize) -> usize {
-        let mut at = n;
+    fn put(self, out: &mut Writer<'_>) {
         for b in self {
-            at = put_byte(out, at, *b);
+            out.put_byte(*b);
         }
-        at
     }
 }
 
 impl Word for &str {
     ghost bytes = { λ s. s.now };
 
-    fn put(self, out: &mut [u8], n: usize) -> usize {
-        self.as_bytes().put(out, n)
+    fn put(self, out: &mut Writer<'_>) {
+        self.as_bytes().put(out);
     }
 }
 
@@ -66,32 +93,50 @@ impl Word for u64 {
     ghost bytes = { decimal };
 
     // The digits before the last one, then the last one.
-    fn put(self, out: &mut [u8], n: usize) -> usize {
-        if self < TEN {
-            return put_byte(out, n, digit(self));
+    fn put(self, out: &mut Writer<'_>) {
+        if TEN <= self {
+            (self / TEN).put(out);
         }
-        let at = (self / TEN).put(out, n);
-        put_byte(out, at, digit(self % TEN))
+        out.put_byte(digit(self % TEN));
+    }
+}
+
+impl Word for u32 {
+    ghost bytes = { decimal };
+
+    fn put(self, out: &mut Writer<'_>) {
+        u64::from(self).put(out);
+    }
+}
+
+impl Word for usize {
+    ghost bytes = { decimal };
+
+    fn put(self, out: &mut Writer<'_>) {
+        (self as u64).put(out);
     }
 }
 
 impl Word for i64 {
     ghost bytes = { signed_decimal };
 
-    fn put(self, out: &mut [u8], n: usize) -> usize {
-        let at = if self < 0 { put_byte(out, n, DASH) } else { n };
-        magnitude(self).put(out, at)
+    fn put(self, out: &mut Writer<'_>) {
+        if self < 0 {
+            out.put_byte(DASH);
+        }
+        magnitude(self).put(out);
     }
 }
 
-// A number, or a dash where there is none.
-impl Word for Option<u64> {
-    ghost bytes = { or_dash_of };
+// A word, or a dash where there is none.
+impl<W: Word> Word for Option<W> {
+    ghost bytes = { or_dash_of W.bytes };
 
-    fn put(self, out: &mut [u8], n: usize) -> usize {
+    #[tactic(auto, unfolding(definition::specs::Text::bytes))]
+    fn put(self, out: &mut Writer<'_>) {
         match self {
-            Some(x) => x.put(out, n),
-            None => put_byte(out, n, DASH),
+            Some(word) => word.put(out),
+            None => out.put_byte(DASH),
         }
     }
 }
@@ -106,45 +151,16 @@ pub struct Name<'a> {
 impl Word for Name<'_> {
     ghost bytes = { λ n. name_word n.text.now n.name };
 
-    fn put(self, out: &mut [u8], n: usize) -> usize {
+    fn put(self, out: &mut Writer<'_>) {
         let text = self.text;
         let name = self.name;
         if name == 0 {
-            return put_byte(out, n, DASH);
+            return out.put_byte(DASH);
         }
         let offset = (name % NAME_UNIT) as usize;
         let length = (name / NAME_UNIT) as usize;
         let rest = &text[offset.min(text.len())..];
-        rest[..length.min(rest.len())].put(out, n)
-    }
-}
-
-// A lent buffer, and the place in it that is written next.
-#[derive(Drop)]
-pub struct Writer<'a> {
-    pub buffer: &'a mut [u8],
-    pub at: usize,
-}
-
-impl Writer<'_> {
-    pub fn put<W: Word>(&mut self, word: W)
-        ensures { Writes (W.bytes word) self.old self.new }
-    {
-        self.at = word.put(self.buffer, self.at);
-    }
-
-    // A word after a space.
-    pub fn next<W: Word>(&mut self, word: W)
-        ensures { Writes (space ∷ W.bytes word) self.old self.new }
-    {
-        let at = put_byte(self.buffer, self.at, SPACE);
-        self.at = word.put(self.buffer, at);
-    }
-
-    pub fn end_line(&mut self)
-        ensures { Writes (line_feed ∷ []) self.old self.new }
-    {
-        self.at = put_byte(self.buffer, self.at, LINE_FEED);
+        rest[..length.min(rest.len())].put(out);
     }
 }
 
@@ -153,9 +169,9 @@ pub fn put_refused(out: &mut Writer<'_>, number: u32, offset: usize, line: usize
     ensures { Writes (refused_line number offset line column) out.old out.new }
 {
     out.put("refused");
-    out.next(number as u64);
-    out.next(offset as u64);
-    out.next(line as u64);
-    out.next(column as u64);
+    out.next(number);
+    out.next(offset);
+    out.next(line);
+    out.next(column);
     out.end_line();
 }

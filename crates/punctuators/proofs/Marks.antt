@@ -13,6 +13,9 @@ use Rattle.definition.specs.Scan.{from}
 use Rattle.definition.specs.Mark.{pair, two_byte_marks, one_byte_marks, mark_among, short_mark, mark_of, mark_at}
 use Rattle.definition_laws.proofs.LexerProgress.{first-from}
 use Rattle.std.specs.Prelude.{Option, Some, None, MatchOption}
+use Rattle.std.specs.Option.{option_map}
+use Rattle.encoding.specs.Kinds.{kind_number}
+use Rattle.encoding.specs.declared.token_kinds.TokenKind.{TokenKind}
 use Rattle.punctuators.specs.declared.Found.{Found}
 use Rattle.punctuators.specs.Found.{mark, kind_or_none, longer}
 use Rattle.lemmas.proofs.Branch.{yes, nay, eq_yes, eq_no}
@@ -84,9 +87,9 @@ kind-none n = by (eqb n 0) refl
     by true q e = eqb-true n 0 q
     by false q e = cc
 
-pub one-short : (n : ℕ) (o : Option ℕ) (r : Option Found) → o ≡ kind_or_none n → MatchOption o (r ≡ None) (λ k. r ≡ Some (record { kind = k; size = 1 })) → mark r ≡ record { kind = n; size = 1 }
+pub one-short : (n : ℕ) (o : Option TokenKind) (r : Option Found) → option_map kind_number o ≡ kind_or_none n → MatchOption o (r ≡ None) (λ k. r ≡ Some (record { kind = k; size = 1 })) → mark r ≡ record { kind = n; size = 1 }
 one-short n None r e f = rw (f, kind-none n e)
-one-short n (Some k) r e f = rw (f, (kind-some n k e).0)
+one-short n (Some k) r e f = rw (f, (kind-some n (kind_number k) e).0)
 
 module _ (text : Bytes) (at : ℕ) where
   mark-is : mark_at (from text at) ≡ mark_of (byte_at text at) (byte_at text (at + 1)) (byte_at text (at + 2))

@@ -1,6 +1,8 @@
 #![tactic(auto)]
 // Marks, and where a string ends.
 ghost use Rattle.std.specs.Prelude.{◌≡◌, ◌≢◌, IfSome, false, ◌&&◌, ◌+◌, ◌≤◌, ◌<◌, eqb, length};
+ghost use Rattle.std.specs.Option.{option_map};
+ghost use Rattle.encoding.specs.Kinds.{kind_number};
 ghost use Rattle.definition.specs.Text.{byte_at};
 ghost use Rattle.definition.specs.Byte.{dot_byte};
 ghost use Rattle.definition.specs.Scan.{from};
@@ -8,14 +10,25 @@ ghost use Rattle.definition.specs.Mark.{pair, two_byte_marks, one_byte_marks, ma
 ghost use Rattle.definition.specs.Quoted.{in_quotes};
 ghost use Rattle.punctuators.specs.Found.{mark, kind_or_none, longer};
 
-use encoding::{ascii, token_kinds};
-use scan::{byte_at, from};
+use encoding::ascii;
+use encoding::token_kinds::TokenKind;
+use scan::from;
 
 // A mark: its kind, and how many bytes it takes.
 #[derive(Clone, Copy)]
 pub struct Found {
-    pub kind: u32,
+    pub kind: TokenKind,
     pub size: usize,
+}
+
+// The byte at an offset; 256 past the end of the text.
+fn byte_at(text: &[u8], at: usize) -> u32
+    ensures { result ≡ byte_at text.now at }
+{
+    match scan::byte_at(text, at) {
+        Some(b) => u32::from(b),
+        None => 256,
+    }
 }
 
 // Three dots.
@@ -28,63 +41,63 @@ pub fn is_ellipsis(text: &[u8], at: usize) -> bool
 
 // The kind of a mark of two bytes.
 #[tactic(auto, unfolding(definition::specs::Mark::mark_among, definition::specs::Mark::two_byte_marks))]
-pub fn two_bytes(a: u32, b: u32) -> Option<u32>
+pub fn two_bytes(a: u32, b: u32) -> Option<TokenKind>
     requires { (a ≤ 256) × (b ≤ 256) }
-    ensures { result ≡ kind_or_none (mark_among two_byte_marks (pair a b)) }
+    ensures { option_map kind_number result ≡ kind_or_none (mark_among two_byte_marks (pair a b)) }
 {
     match (a, b) {
-        (ascii::LESS, ascii::LESS) => Some(token_kinds::SHIFT_LEFT),
-        (ascii::GREATER, ascii::GREATER) => Some(token_kinds::SHIFT_RIGHT),
-        (ascii::LESS, ascii::EQUALS) => Some(token_kinds::LESS_EQUAL),
-        (ascii::GREATER, ascii::EQUALS) => Some(token_kinds::GREATER_EQUAL),
-        (ascii::EQUALS, ascii::EQUALS) => Some(token_kinds::EQUAL_EQUAL),
-        (ascii::BANG, ascii::EQUALS) => Some(token_kinds::NOT_EQUAL),
-        (ascii::AMPERSAND, ascii::AMPERSAND) => Some(token_kinds::AND_AND),
-        (ascii::BAR, ascii::BAR) => Some(token_kinds::OR_OR),
+        (ascii::LESS, ascii::LESS) => Some(TokenKind::ShiftLeft),
+        (ascii::GREATER, ascii::GREATER) => Some(TokenKind::ShiftRight),
+        (ascii::LESS, ascii::EQUALS) => Some(TokenKind::LessEqual),
+        (ascii::GREATER, ascii::EQUALS) => Some(TokenKind::GreaterEqual),
+        (ascii::EQUALS, ascii::EQUALS) => Some(TokenKind::EqualEqual),
+        (ascii::BANG, ascii::EQUALS) => Some(TokenKind::NotEqual),
+        (ascii::AMPERSAND, ascii::AMPERSAND) => Some(TokenKind::AndAnd),
+        (ascii::BAR, ascii::BAR) => Some(TokenKind::OrOr),
         _ => None,
     }
 }
 
 // The kind of a mark of one byte. In parts so small that each becomes a table.
 #[tactic(auto, unfolding(definition::specs::Mark::mark_among, definition::specs::Mark::one_byte_marks))]
-pub fn one_byte(a: u32) -> Option<u32>
-    ensures { result ≡ kind_or_none (mark_among one_byte_marks a) }
+pub fn one_byte(a: u32) -> Option<TokenKind>
+    ensures { option_map kind_number result ≡ kind_or_none (mark_among one_byte_marks a) }
 {
     if a < 64 {
         return match a {
-            ascii::BANG => Some(token_kinds::BANG),
-            ascii::PERCENT => Some(token_kinds::PERCENT),
-            ascii::AMPERSAND => Some(token_kinds::AMPERSAND),
-            ascii::OPEN_PAREN => Some(token_kinds::OPEN_PAREN),
-            ascii::CLOSE_PAREN => Some(token_kinds::CLOSE_PAREN),
-            ascii::STAR => Some(token_kinds::STAR),
-            ascii::PLUS => Some(token_kinds::PLUS),
-            ascii::COMMA => Some(token_kinds::COMMA),
-            ascii::MINUS => Some(token_kinds::MINUS),
-            ascii::DOT => Some(token_kinds::DOT),
-            ascii::SLASH => Some(token_kinds::SLASH),
-            ascii::COLON => Some(token_kinds::COLON),
-            ascii::SEMICOLON => Some(token_kinds::SEMICOLON),
-            ascii::LESS => Some(token_kinds::LESS),
-            ascii::EQUALS => Some(token_kinds::EQUALS),
-            ascii::GREATER => Some(token_kinds::GREATER),
-            ascii::QUESTION => Some(token_kinds::QUESTION),
+            ascii::BANG => Some(TokenKind::Bang),
+            ascii::PERCENT => Some(TokenKind::Percent),
+            ascii::AMPERSAND => Some(TokenKind::Ampersand),
+            ascii::OPEN_PAREN => Some(TokenKind::OpenParen),
+            ascii::CLOSE_PAREN => Some(TokenKind::CloseParen),
+            ascii::STAR => Some(TokenKind::Star),
+            ascii::PLUS => Some(TokenKind::Plus),
+            ascii::COMMA => Some(TokenKind::Comma),
+            ascii::MINUS => Some(TokenKind::Minus),
+            ascii::DOT => Some(TokenKind::Dot),
+            ascii::SLASH => Some(TokenKind::Slash),
+            ascii::COLON => Some(TokenKind::Colon),
+            ascii::SEMICOLON => Some(TokenKind::Semicolon),
+            ascii::LESS => Some(TokenKind::Less),
+            ascii::EQUALS => Some(TokenKind::Equals),
+            ascii::GREATER => Some(TokenKind::Greater),
+            ascii::QUESTION => Some(TokenKind::Question),
             _ => None,
         };
     }
     if a < 96 {
         return match a {
-            ascii::OPEN_BRACKET => Some(token_kinds::OPEN_BRACKET),
-            ascii::CLOSE_BRACKET => Some(token_kinds::CLOSE_BRACKET),
-            ascii::CARET => Some(token_kinds::CARET),
+            ascii::OPEN_BRACKET => Some(TokenKind::OpenBracket),
+            ascii::CLOSE_BRACKET => Some(TokenKind::CloseBracket),
+            ascii::CARET => Some(TokenKind::Caret),
             _ => None,
         };
     }
     match a {
-        ascii::OPEN_BRACE => Some(token_kinds::OPEN_BRACE),
-        ascii::BAR => Some(token_kinds::BAR),
-        ascii::CLOSE_BRACE => Some(token_kinds::CLOSE_BRACE),
-        ascii::TILDE => Some(token_kinds::TILDE),
+        ascii::OPEN_BRACE => Some(TokenKind::OpenBrace),
+        ascii::BAR => Some(TokenKind::Bar),
+        ascii::CLOSE_BRACE => Some(TokenKind::CloseBrace),
+        ascii::TILDE => Some(TokenKind::Tilde),
         _ => None,
     }
 }
@@ -103,13 +116,13 @@ fn is_longer(a: u32) -> bool
 pub fn mark_at(text: &[u8], at: usize) -> Option<Found>
     requires { at < length text.now }
     ensures same { mark result ≡ mark_at (from text.now at) }
-    ensures is_mark { IfSome result (λ f. f.kind ≢ 0) }
+    ensures is_mark { IfSome result (λ f. kind_number f.kind ≢ 0) }
 {
     let a = byte_at(text, at);
     if is_longer(a) {
         if is_ellipsis(text, at) {
             return Some(Found {
-                kind: token_kinds::ELLIPSIS,
+                kind: TokenKind::Ellipsis,
                 size: 3,
             });
         }

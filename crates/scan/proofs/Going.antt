@@ -16,6 +16,7 @@ use Rattle.definition.specs.Place.{Place, after, after_all, place_of}
 use Rattle.std.specs.Prelude.{Option, Some, None, MatchOption}
 use Rattle.std.specs.List.{AllWithin, HoldsAt}
 use Rattle.std.specs.Option.{unwrap_or}
+use Rattle.std.proofs.lemmas.Iterator.{index_from_first}
 use Rattle.std.proofs.lemmas.List.{take_min}
 use Rattle.lemmas.proofs.Branch.{yes, nay}
 use Rattle.lemmas.proofs.Lists.{drop-next}
@@ -43,28 +44,24 @@ from_end text i h = drop_of_length-le text h
 pub tail_part : (l : Bytes) (a : ℕ) → take (length l - a) (drop a l) ≡ drop a l
 tail_part l a = take_all (length l - a) (drop a l) (rw (length-drop a l) (omega arith))
 
--- two bytes stand next, or not
-module _ (a b : ℕ) (text : Bytes) (i : ℕ) where
-  pub begins-is : begins a b (from text i) ≡ (eqb (byte_at text i) a && eqb (byte_at text (i + 1)) b)
-  unfolding begins
-  begins-is = rw (first-from text i, second_from text i)
-
-  pub begins-first : byte_at text i ≡ a → eqb (byte_at text (i + 1)) b ≡ begins a b (from text i)
-  begins-first e = sym (rw (begins-is, eq-eqb _ _ e))
-
-  pub begins_not : (byte_at text i ≡ a → ⊥) → begins a b (from text i) ≡ false
-  begins_not e = rw (begins-is, ne_eqb _ _ e)
-
 -- where a byte was read, the text goes on
 pub there : (text : Bytes) (i b : ℕ) → byte_at text i ≡ b → b < 256 → i < length text
 there [] i b e h = let q : 256 ≡ b = e in absurd (omega arith)
 there (x ∷ l) zero b e h = omega arith
 there (x ∷ l) (suc i) b e h = let k = there l i b e h in omega arith
 
-pub begins-inside : (a b : ℕ) (text : Bytes) (i : ℕ) → b < 256 → begins a b (from text i) ≡ true → i + 2 ≤ length text
-begins-inside a b text i h e =
-    let q = eqb-true (byte_at text (i + 1)) b (and_elim_right (eqb (byte_at text i) a) (eqb (byte_at text (i + 1)) b) (sym (begins-is a b text i) ∙ e)) in
-    let k = there text (i + 1) b q h in omega arith
+-- two bytes stand next, or not
+module _ (a b : ℕ) (text : Bytes) (i : ℕ) where
+  pub begins-is : begins a b (from text i) ≡ (eqb (byte_at text i) a && eqb (byte_at text (i + 1)) b)
+  unfolding begins
+  begins-is = rw (first-from text i, second_from text i)
+
+  pub begins-inside : b < 256 → begins a b (from text i) ≡ true → i + 2 ≤ length text
+  begins-inside h e =
+      let q = eqb-true (byte_at text (i + 1)) b (and_elim_right (eqb (byte_at text i) a) (eqb (byte_at text (i + 1)) b) (sym begins-is ∙ e)) in
+      let k = there text (i + 1) b q h in omega arith
+
+pub ruleset two_bytes = (begins-is, inside, outside)
 
 -- how far, by the next byte
 module _ (stop : Bytes → Bool) (b : ℕ) (bs : Bytes) where
@@ -78,49 +75,18 @@ module _ (stop : Bytes → Bool) (b : ℕ) (bs : Bytes) where
 
 -- where a closure stops that says of each byte what a stop of the definition says
 module _ (says : ℕ → Bool → Type 0) (stop : Bytes → Bool) (agrees : (b : ℕ) (t : Bool) (bs : Bytes) → says b t → t ≡ stop (b ∷ bs)) where
-  none_stops : (bs : Bytes) → AllWithin (λ b. says b false) bs 0 (length bs) → length bs ≡ before stop bs
-  unfolding before
-  none_stops [] f = refl
-  none_stops (b ∷ bs) f = ap suc (none_stops bs (λ k d l m. f (suc k) d (omega arith) (omega arith))) ∙ sym (going-at stop b bs (sym (agrees b false bs (f 0 0 (omega arith) (omega arith)))))
-
-  first_stops : (bs : Bytes) (n : ℕ) → n < length bs → HoldsAt (λ b. says b true) bs n → AllWithin (λ b. says b false) bs 0 n → n ≡ before stop bs
-  first_stops [] n l y f = absurd (omega arith)
-  first_stops (b ∷ bs) zero l y f = sym (stopped-at stop b bs (sym (agrees b true bs (y 0))))
-  first_stops (b ∷ bs) (suc n) l y f =
-      ap suc (first_stops bs n (omega arith) (λ d. y d) (λ k d m q. f (suc k) d (omega arith) (omega arith)))
-      ∙ sym (going-at stop b bs (sym (agrees b false bs (f 0 0 (omega arith) (omega arith)))))
-
   pub first_or_all : (bs : Bytes) (r : Option ℕ)
       → MatchOption r (AllWithin (λ b. says b false) bs 0 (length bs)) (λ n. (n < length bs) × HoldsAt (λ b. says b true) bs n × AllWithin (λ b. says b false) bs 0 n)
       → unwrap_or r (length bs) ≡ before stop bs
-  first_or_all bs None f = none_stops bs f
-  first_or_all bs (Some n) f = first_stops bs n f.0 f.1 f.2
-
--- how far, at the end, where it stops, and where it goes on
-module _ (stop : Bytes → Bool) (text : Bytes) where
-  pub ended : (i : ℕ) → length text ≤ i → before stop (from text i) ≡ 0
   unfolding before
-  ended i h = rw (from_end text i h)
+  first_or_all bs r m =
+      sym (index_from_first (before stop) (λ b. says b true) (λ b. says b false) refl
+      (λ x xs y. stopped-at stop x xs (sym (agrees x true xs y)))
+      (λ x xs n. going-at stop x xs (sym (agrees x false xs n)) ∙ sym (add-one (before stop xs))) bs r m)
 
-  pub stopped : (i : ℕ) → i < length text → stop (from text i) ≡ true → before stop (from text i) ≡ 0
-  stopped i h e = ap (before stop) (from_cons text i h) ∙ stopped-at stop _ _ (sym (ap stop (from_cons text i h)) ∙ e)
-
-  pub going : (i : ℕ) → i < length text → stop (from text i) ≡ false → before stop (from text i) ≡ suc (before stop (from text (i + 1)))
-  going i h e = ap (before stop) (from_cons text i h) ∙ going-at stop _ _ (sym (ap stop (from_cons text i h)) ∙ e)
-
-  -- the loop: where it stops is the same from each offset on the way
-  pub moves : (at i : ℕ) → i < length text → stop (from text i) ≡ false
-      → at + before stop (from text at) ≡ i + before stop (from text i)
-      → at + before stop (from text at) ≡ i + 1 + before stop (from text (i + 1))
-  moves at i h e q = let g = going i h e in omega arith
-
-  pub stops : (at i : ℕ) → i < length text → stop (from text i) ≡ true
-      → at + before stop (from text at) ≡ i + before stop (from text i) → i ≡ at + before stop (from text at)
-  stops at i h e q = let g = stopped i h e in omega arith
-
-  pub ends : (at i : ℕ) → length text ≤ i
-      → at + before stop (from text at) ≡ i + before stop (from text i) → i ≡ at + before stop (from text at)
-  ends at i h q = let g = ended i h in omega arith
+-- how far, where it goes on
+pub going : (stop : Bytes → Bool) (text : Bytes) (i : ℕ) → i < length text → stop (from text i) ≡ false → before stop (from text i) ≡ suc (before stop (from text (i + 1)))
+going stop text i h e = ap (before stop) (from_cons text i h) ∙ going-at stop _ _ (sym (ap stop (from_cons text i h)) ∙ e)
 
 -- lines and columns: one byte more
 pub after_more : (p : Place) (l : Bytes) (b : ℕ) → after_all p (l ++ (b ∷ [])) ≡ after (after_all p l) b

@@ -37,13 +37,13 @@ no_blank : (b : ℕ) → 128 ≤ b → is_blank_byte b ≡ false
 unfolding is_blank_byte
 no_blank b h = neither (apart 9 13 b (omega arith)) (differs b 32 (omega arith))
 
-no_letter : (b : ℕ) → 128 ≤ b → is_letter_byte b ≡ false
+pub no_letter : (b : ℕ) → 128 ≤ b → is_letter_byte b ≡ false
 unfolding is_letter_byte
 no_letter b h =
     neither (apart 97 122 b (omega arith))
     (neither (apart 65 90 b (omega arith)) (differs b 95 (omega arith)))
 
-no_digit : (b : ℕ) → 128 ≤ b → is_digit_byte b ≡ false
+pub no_digit : (b : ℕ) → 128 ≤ b → is_digit_byte b ≡ false
 unfolding is_digit_byte
 no_digit b h = apart 48 57 b (omega arith)
 

@@ -1,4 +1,4 @@
 pub mod Sized
 pub mod Told
 pub mod Gathered
-pub mod Aligned
+mod Reading

@@ -130,7 +130,7 @@ pub no_levels : (m : Model) (t : Table) (n levels : ℕ) → levels ≡ 0 → al
 unfolding align_within
 no_levels m t n levels z = rw z
 
-module _ (m : Model) (t : Table) (n levels : ℕ) (l : levels ≡ 0 → ⊥) {kind : ℕ} (k : kind ≡ kind_of (row_at t n)) where
+module _ (m : Model) (t : Table) (n levels : ℕ) (l : 0 < levels) {kind : ℕ} (k : kind ≡ kind_of (row_at t n)) where
   aligned : {target extent : ℕ} → target ≡ target_of (row_at t n) → extent ≡ extent_of (row_at t n)
       → align_within levels m t n ≡ align_numbers m (λ r. align_within (levels - 1) m t r) kind target extent (largest (λ r. align_within (levels - 1) m t r) (members_of t n (span_of (row_at t n))))
   unfolding align_within

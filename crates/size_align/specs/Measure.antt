@@ -3,7 +3,7 @@ use Rattle.std.specs.Prelude.{◌≡◌, List, Bool, true, false, ◌||◌, ℕ,
 use Rattle.std.proofs.Math.Option.{Option, none, some}
 use Rattle.definition.specs.Model.{Model as MeantModel}
 use Rattle.definition.specs.RowKind.{int_kind, float_kind, bool_kind, pointer_kind, struct_kind, union_kind, enum_kind}
-use Rattle.definition.specs.Row.{span_of}
+use Rattle.definition.specs.Row.{span_of, extent_of}
 use Rattle.definition.specs.Table.{Table, row_at}
 use Rattle.definition.specs.Types.{members_of}
 use Rattle.definition.specs.Size.{times, size_of}
@@ -11,6 +11,7 @@ use Rattle.definition.specs.Align.{capped, largest, align_within}
 use Rattle.table.specs.Held.{InWords, InWides}
 use Rattle.model.specs.declared.Model.{Model}
 use Rattle.model.specs.Meaning.{model}
+use Rattle.size_align.specs.declared.Aligning.{Aligning}
 use Rattle.size_align.specs.declared.Size.{Size}
 use Rattle.size_align.specs.declared.Size.TheVariants.{Known, Big, Unknown}
 
@@ -78,30 +79,24 @@ own_align m kind extent =
           ]
     ]
 
--- an alignment as a number: 0 where there is none
-unfoldable pub meant : ℕ → Option ℕ
-meant a = elim (eqb a 0) [ true ↦ none | false ↦ some a ]
+-- What alignments are read from is a model's and a table's.
+pub record Reads (x : Aligning) (m : MeantModel) (t : Table) : Type 0 where
+  pub pointer : x.pointer ≡ capped m m.pointer
+  pub most : x.most ≡ max m.max_align 1
+  pub words : InWords t x.w.now
+  pub wides : Extents t x.d.now
+  pub members : x.members ≡ length t.members
 
--- what alignments need of a model: a pointer's alignment, and the cap
-pub record Caps (m : MeantModel) (p q : ℕ) : Type 0 where
-  pub pointer : p ≡ capped m m.pointer
-  pub most : q ≡ max m.max_align 1
+pub record OwnAlignIs (x : Aligning) (kind n : ℕ) (r : CodeOption ℕ) : Type 0 where
+  pub of : (m : MeantModel) (t : Table) → Reads x m t → align r ≡ own_align m kind (extent_of (row_at t n))
 
-pub record OwnAlignIs (pointer most kind extent r : ℕ) : Type 0 where
-  pub of : (m : MeantModel) → Caps m pointer most → meant r ≡ own_align m kind extent
-
--- The alignment of row n as far as some levels deep, of whatever table the slices hold, or nothing said.
-pub record ScalarIs (levels pointer most n : ℕ) (w d : List ℕ) (r : ℕ) : Type 0 where
-  pub of : (m : MeantModel) → Caps m pointer most → (t : Table) → InWords t w → Extents t d → (r ≡ 0 → ⊥) → meant r ≡ align_within levels m t n
-
--- The same with as many members as the code was told.
-pub record WithinIs (levels pointer most members n : ℕ) (w d : List ℕ) (r : ℕ) : Type 0 where
-  pub of : (m : MeantModel) → Caps m pointer most → (t : Table) → InWords t w → Extents t d → members ≡ length t.members → meant r ≡ align_within levels m t n
+-- The alignment of row n as far as some levels deep, of whatever table is read.
+pub record WithinIs (x : Aligning) (levels n : ℕ) (r : CodeOption ℕ) : Type 0 where
+  pub of : (m : MeantModel) (t : Table) → Reads x m t → align r ≡ align_within levels m t n
 
 -- The largest of its members.
-pub record StrictestIs (levels pointer most members n : ℕ) (w d : List ℕ) (r : ℕ) : Type 0 where
-  pub of : (m : MeantModel) → Caps m pointer most → (t : Table) → InWords t w → Extents t d → members ≡ length t.members
-      → meant r ≡ largest (λ k. align_within levels m t k) (members_of t n (span_of (row_at t n)))
+pub record StrictestIs (x : Aligning) (levels n : ℕ) (r : CodeOption ℕ) : Type 0 where
+  pub of : (m : MeantModel) (t : Table) → Reads x m t → align r ≡ largest (λ k. align_within levels m t k) (members_of t n (span_of (row_at t n)))
 
 -- The alignment for a whole model.
 pub record AlignIs (levels : ℕ) (m : Model) (members n : ℕ) (w d : List ℕ) (r : CodeOption ℕ) : Type 0 where

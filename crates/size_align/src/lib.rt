@@ -2,10 +2,11 @@
 // The size of a row, exact as far as 64 bits go, and its alignment.
 ghost use Rattle.std.specs.Prelude.{◌≡◌, min, max};
 ghost use Rattle.definition.specs.Limit.{align_levels};
-ghost use Rattle.definition.specs.Align.{or_one};
+ghost use Rattle.definition.specs.Align.{or_one, larger};
 ghost use Rattle.definition.specs.RowKind.{array_kind, typedef_kind, qualified_kind};
-ghost use Rattle.size_align.specs.Measure.{among, align, SizeIs, OwnIs, TimesIs, OwnAlignIs, ScalarIs, WithinIs, StrictestIs, AlignIs};
+ghost use Rattle.size_align.specs.Measure.{among, align, SizeIs, OwnIs, TimesIs, OwnAlignIs, WithinIs, StrictestIs, AlignIs};
 
+use encoding::regions::{WIDES, WORDS};
 use encoding::row_kinds::{
     ARRAY_KIND, BOOL_KIND, ENUM_KIND, FLOAT_KIND, INT_KIND, POINTER_KIND, QUALIFIED_KIND,
     STRUCT_KIND, TYPEDEF_KIND, UNION_KIND,
@@ -91,8 +92,16 @@ pub fn or_one(a: Option<u64>) -> u64
     a.unwrap_or(1)
 }
 
-// Below, an alignment is a number, 0 where there is none, and of the model there are the alignment of a pointer and the cap: a call then copies nothing. With
-// options in their place a scalar's alignment takes half as long again.
+// What alignments are read from: of a model the alignment of a pointer and the cap, of a table the slices of numbers and how many members it has. The slices have their whole lengths, so that no
+// read tests one.
+#[derive(Clone, Copy)]
+struct Aligning<'a> {
+    pointer: u64,
+    most: u64,
+    w: &'a [u32; WORDS],
+    d: &'a [u64; WIDES],
+    members: usize,
+}
 
 // A scalar's alignment: its size, at least 1 and at most the cap.
 fn capped(most: u64, size: u64) -> u64
@@ -101,110 +110,97 @@ fn capped(most: u64, size: u64) -> u64
     size.max(1).min(most)
 }
 
-// The alignment of a row that goes by no other and has no members.
-#[tactic(auto, unfolding(crate::specs::Measure::among, crate::specs::Measure::own_align, crate::specs::Measure::meant))]
-fn own_align(pointer: u64, most: u64, kind: u32, extent: u64) -> u64
-    ensures { OwnAlignIs pointer most kind extent result }
+// The larger of two alignments that may be absent.
+fn larger(a: Option<u64>, b: Option<u64>) -> Option<u64>
+    ensures { align result ≡ larger (align a) (align b) }
 {
-    match kind {
-        INT_KIND | FLOAT_KIND | ENUM_KIND => capped(most, extent),
-        BOOL_KIND => 1,
-        POINTER_KIND => pointer,
-        _ => 0,
+    a.max(b)
+}
+
+impl Aligning<'_> {
+    // The alignment of a row that goes by no other and has no members.
+    #[tactic(auto, unfolding(crate::specs::Measure::among, crate::specs::Measure::own_align))]
+    fn own_align(&self, kind: u32, n: u32) -> Option<u64>
+        ensures { OwnAlignIs self.now kind n result }
+    {
+        match kind {
+            INT_KIND | FLOAT_KIND | ENUM_KIND => {
+                let d = self.d;
+                let extent = row_extent(d, n);
+                Some(capped(self.most, extent))
+            }
+            BOOL_KIND => Some(1),
+            POINTER_KIND => Some(self.pointer),
+            _ => None,
+        }
+    }
+
+    // The alignment of a row as far as `levels` rows deep. It is put into the loop of `strictest`, so that most members need no call.
+    #[inline(always)]
+    #[cycle(align_within_strictest)]
+    fn align_within(&self, n: u32, levels: u32) -> Option<u64>
+        ensures { WithinIs self.now levels n result }
+    {
+        let w = self.w;
+        let mut row = n;
+        for below in (0..levels).rev() {
+            let kind = row_kind(w, row);
+            match kind {
+                STRUCT_KIND | UNION_KIND => {
+                    let best = self.strictest(row, below);
+                    return Some(or_one(best));
+                }
+                ARRAY_KIND | TYPEDEF_KIND | QUALIFIED_KIND => row = row_target(w, row),
+                _ => return self.own_align(kind, row),
+            }
+        }
+        None
+    }
+
+    // The largest alignment of a row's members: from its first entry on, as many as it has that carry it.
+    #[inline(never)]
+    #[cycle(align_within_strictest)]
+    fn strictest(&self, n: u32, levels: u32) -> Option<u64>
+        ensures { StrictestIs self.now levels n result }
+    {
+        let w = self.w;
+        let first = row_first(w, n) as usize;
+        let mut left = row_count(w, n);
+        let mut best = None;
+        for i in first..self.members {
+            if left == 0 {
+                return best;
+            }
+            if member_row(w, i) != n {
+                continue;
+            }
+            let ty = member_type(w, i);
+            left -= 1;
+            let a = self.align_within(ty, levels);
+            best = larger(best, a);
+        }
+        best
     }
 }
 
-// The alignment of a row that goes by a scalar; 0 says nothing. Most members are such, and need no call.
-fn scalar_align(pointer: u64, most: u64, w: &[u32], d: &[u64], n: u32, levels: u32) -> u64
-    ensures { ScalarIs levels pointer most n w.now d.now result }
-{
-    let mut row = n;
-    for _ in 0..levels {
-        let kind = row_kind(w, row);
-        if !goes_by_another(kind) {
-            let extent = row_extent(d, row);
-            return own_align(pointer, most, kind, extent);
-        }
-        row = row_target(w, row);
-    }
-    0
-}
-
-// The alignment of a row as far as `levels` rows deep.
-#[cycle(align_within_strictest)]
-fn align_within(
-    pointer: u64,
-    most: u64,
-    w: &[u32],
-    d: &[u64],
-    members: usize,
-    n: u32,
-    levels: u32,
-) -> u64
-    ensures { WithinIs levels pointer most members n w.now d.now result }
-{
-    if levels == 0 {
-        return 0;
-    }
-    let kind = row_kind(w, n);
-    match kind {
-        STRUCT_KIND | UNION_KIND => {
-            let best = strictest(pointer, most, w, d, members, n, levels - 1);
-            best.max(1)
-        }
-        ARRAY_KIND | TYPEDEF_KIND | QUALIFIED_KIND => {
-            let under = row_target(w, n);
-            align_within(pointer, most, w, d, members, under, levels - 1)
-        }
-        _ => {
-            let extent = row_extent(d, n);
-            own_align(pointer, most, kind, extent)
-        }
-    }
-}
-
-// The largest alignment of a row's members: from its first entry on, as many as it has that carry it.
-#[cycle(align_within_strictest)]
-fn strictest(
-    pointer: u64,
-    most: u64,
-    w: &[u32],
-    d: &[u64],
-    members: usize,
-    n: u32,
-    levels: u32,
-) -> u64
-    ensures { StrictestIs levels pointer most members n w.now d.now result }
-{
-    let first = row_first(w, n) as usize;
-    let mut left = row_count(w, n);
-    let mut best = 0;
-    for i in first..members {
-        if left == 0 {
-            return best;
-        }
-        if member_row(w, i) != n {
-            continue;
-        }
-        let ty = member_type(w, i);
-        left -= 1;
-        let scalar = scalar_align(pointer, most, w, d, ty, levels);
-        if scalar != 0 {
-            best = best.max(scalar);
-            continue;
-        }
-        let a = align_within(pointer, most, w, d, members, ty, levels);
-        best = best.max(a);
-    }
-    best
-}
-
-// The alignment of a row; `members` is how many members the table has.
+// The alignment of a row; `members` is how many members the table has. Slices of other lengths hold no table.
 pub fn align_of(m: Model, w: &[u32], d: &[u64], members: usize, n: u32) -> Option<u64>
     ensures { AlignIs align_levels m members n w.now d.now result }
 {
+    let Ok(w) = <&[u32; WORDS]>::try_from(w) else {
+        return None;
+    };
+    let Ok(d) = <&[u64; WIDES]>::try_from(d) else {
+        return None;
+    };
     let most = m.max_align.max(1);
     let pointer = capped(most, m.pointer);
-    let a = align_within(pointer, most, w, d, members, n, Model::ALIGN_LEVELS);
-    if a == 0 { None } else { Some(a) }
+    let x = Aligning {
+        pointer,
+        most,
+        w,
+        d,
+        members,
+    };
+    x.align_within(n, Model::ALIGN_LEVELS)
 }

@@ -7,8 +7,16 @@ use native.Mathlib.Omega.{arith}
 use lib.Dec.{ltb}
 use lib.ListN.{length, get_or}
 use Rattle.definition.specs.Text.{Bytes, byte_at}
+use Rattle.encoding.specs.Kinds.{kind_number, kind_numbers}
+use Rattle.encoding.specs.declared.token_kinds.TokenKind.{TokenKind}
+use Rattle.encoding.specs.declared.token_kinds.TokenKind.TheVariants.{End}
+use Rattle.encoding.proofs.KindColumns.{kind_there}
 use Rattle.spellings.specs.Names.{is_name_of}
 use Rattle.spellings.specs.Chain.{bit_of, branch, Reach, here, there, Keeps, Rising, Met, Missed}
+
+-- what the code reads of a kind
+pub is_name_at : (text w : Bytes) (ks : List TokenKind) (j n : ℕ) {t : Bool} → is_name_of text w (kind_number (get_or ks j End)) n ≡ t → is_name_of text w (get_or (kind_numbers ks) j 0) n ≡ t
+is_name_at text w ks j n e = rw (kind_there ks j) e
 
 -- a bit of a spelling
 bit-low : (w : Bytes) (d : ℕ) → bit_of w d < 2

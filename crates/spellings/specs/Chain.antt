@@ -44,13 +44,11 @@ pub record Rising (ls : List ℕ) (heads count : ℕ) : Type 0 where
   pub rises : (i b : ℕ) → b < 2 → 0 < get_or ls (heads + 2 * i + b) 0 → i + 1 < get_or ls (heads + 2 * i + b) 0
 
 -- what a walk needs
-pub record Walks (text : Bytes) (ks ns ls : List ℕ) (count heads head at end : ℕ) : Type 0 where
+pub record Walks (text : Bytes) (ks ns ls : List ℕ) (count heads head : ℕ) : Type 0 where
   pub kinds : count ≤ length ks
   pub numbers : count ≤ length ns
   pub links : heads + 2 * count ≤ length ls
   pub short : count ≤ max_text
-  pub on : at < end
-  pub ends : end ≤ length text
   pub starts : head < heads
   pub inside : (j : ℕ) → j < count → is_name (get_or ks j 0) ≡ true → Inside text (get_or ns j 0)
   pub rising : Rising ls heads count

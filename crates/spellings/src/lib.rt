@@ -1,19 +1,18 @@
 #![tactic(auto)]
 // Names among the tokens: their spellings, and trees of them, one for each hash of a spelling.
 ghost use Rattle.std.specs.Prelude.{◌≡◌, true, ◌+◌, ◌-◌, ◌≤◌, ◌<◌, length, take};
+ghost use Rattle.encoding.specs.Kinds.{kind_number, kind_numbers};
 ghost use Rattle.definition.specs.Kind.{is_name};
 ghost use Rattle.definition.specs.Text.{same};
 ghost use Rattle.definition.specs.Scan.{from};
 ghost use Rattle.spellings.specs.Names.{spelled_by, Inside, is_name_of};
 ghost use Rattle.spellings.specs.Chain.{hashed, HeadCount, slot, bit_of, Walks, Walked};
 
-use encoding::names::NAME_UNIT;
-use encoding::token_kinds::{BOOL_NAME, IDENTIFIER};
+use encoding::names::Name;
+use encoding::token_kinds::TokenKind;
+use words::classes::is_name;
 
 const BYTE_BITS: usize = 8;
-
-// A name is this times its length, and its offset.
-pub const NAME_LENGTH: u64 = NAME_UNIT as u64;
 
 pub const HEADS: usize = 4096;
 
@@ -30,36 +29,23 @@ pub enum Spot {
     Free(usize),
 }
 
-// A word that is no keyword.
-#[tactic(auto, unfolding(definition::specs::Kind::is_name))]
-fn is_name(k: u32) -> bool
-    ensures { result ≡ is_name k }
+// A name has a spelling.
+#[tactic(auto, using(crate::proofs::Found::same_bytes))]
+fn spelled(text: &[u8], n: u64, word: &[u8]) -> bool
+    requires { Inside text.now n }
+    ensures { result ≡ same word.now (spelled_by text.now n) }
 {
-    matches!(k, IDENTIFIER..=BOOL_NAME)
-}
-
-// A name has the spelling from an offset to another.
-#[tactic(auto, using(crate::proofs::Found::same_bytes), unfolding(definition::specs::Name::offset_of, definition::specs::Name::length_of))]
-fn spelled(text: &[u8], n: u64, at: usize, end: usize) -> bool
-    requires inside { Inside text.now n }
-    requires at_le_end { at ≤ end }
-    requires end_in_bounds { end ≤ length text.now }
-    ensures { result ≡ same (take (end - at) (from text.now at)) (spelled_by text.now n) }
-{
-    let size = (n / NAME_LENGTH) as usize;
-    let offset = (n % NAME_LENGTH) as usize;
-    &text[at..end] == &text[offset..offset + size]
+    let name = Name::numbered(n);
+    word == &text[name.offset..name.offset + name.length]
 }
 
 // A token of a kind and a number is the name of that spelling.
 #[tactic(auto, unfolding(crate::specs::Names::is_name_of))]
-fn is_name_of(text: &[u8], k: u32, n: u64, at: usize, end: usize) -> bool
-    requires inside { is_name k ≡ true → Inside text.now n }
-    requires at_le_end { at ≤ end }
-    requires end_in_bounds { end ≤ length text.now }
-    ensures { result ≡ is_name_of text.now (take (end - at) (from text.now at)) k n }
+fn is_name_of(text: &[u8], kind: TokenKind, n: u64, word: &[u8]) -> bool
+    requires { is_name (kind_number kind) ≡ true → Inside text.now n }
+    ensures { result ≡ is_name_of text.now word.now (kind_number kind) n }
 {
-    is_name(k) && spelled(text, n, at, end)
+    is_name(kind) && spelled(text, n, word)
 }
 
 // A hash of a spelling.
@@ -104,26 +90,25 @@ fn side(word: &[u8], depth: usize) -> usize
 // Looks for a spelling in the tree of a head.
 pub fn walk(
     text: &[u8],
-    kinds: &[u32],
+    kinds: &[TokenKind],
     numbers: &[u64],
     links: &[u16],
     count: usize,
     heads: usize,
     head: usize,
-    at: usize,
-    end: usize,
+    word: &[u8],
 ) -> Spot
-    requires { Walks text.now kinds.now numbers.now links.now count heads head at end }
-    ensures { Walked text.now (take (end - at) (from text.now at)) kinds.now numbers.now links.now count heads head result }
+    requires { Walks text.now (kind_numbers kinds.now) numbers.now links.now count heads head }
+    ensures { Walked text.now word.now (kind_numbers kinds.now) numbers.now links.now count heads head result }
 {
     let mut spot = head;
     let mut depth = 0;
     while let Some(j) = usize::from(links[spot]).checked_sub(1) {
         let name = numbers[j];
-        if is_name_of(text, kinds[j], name, at, end) {
+        if is_name_of(text, kinds[j], name, word) {
             return Spot::Known(name);
         }
-        spot = heads + LINKS * j + side(&text[at..end], depth);
+        spot = heads + LINKS * j + side(word, depth);
         depth += 1;
     }
     Spot::Free(spot)

@@ -16,15 +16,11 @@ pub fn read_full<R: Read>(input: &mut R, buf: &mut [u8]) -> io::Result<usize>
         if filled == size {
             return Ok(filled);
         }
-        let read = input.read(&mut buf[filled..]);
-        match read {
+        match input.read(&mut buf[filled..]) {
             Ok(0) => return Ok(filled),
             Ok(n) => filled += n,
-            Err(e) => {
-                if e.kind() != ErrorKind::Interrupted {
-                    return Err(e);
-                }
-            }
+            Err(e) if e.kind() == ErrorKind::Interrupted => {}
+            Err(e) => return Err(e),
         }
     }
     Ok(filled)

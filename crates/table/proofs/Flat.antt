@@ -7,9 +7,12 @@ use native.Mathlib.Nat.{mul-le-mul_left}
 use mathlib.Core.Bool.{Bool, true, false}
 use lib.Dec.{ltb}
 use borrow.Author.Tests.{ltb-true, ltb-false}
-use lib.ListN.{length, get_or, set, replicate, length-append, length-set, length-replicate, get_or-replicate, get_or-append, get_or-eq_default}
+use lib.ListN.{length, get_or, set, take, drop, replicate, length-take, length-drop, length-append, length-set, length-replicate, get_or-replicate, get_or-append, get_or-eq_default}
 use lib.Seq.{set_at, set-append_left, get_or-append-add}
+use borrow.Rule.Slice.PartMut.{put_mid}
+use Rattle.std.proofs.lemmas.List.{set_comm, take-append-drop}
 use Rattle.definition.specs.Lent.{padded, flat}
+use Rattle.table.specs.Store.{stores, stored}
 
 module _ {E : Type 0} where
   pub set_after : (xs ys : List E) (n i : ℕ) (v : E) → length xs ≡ n → set (xs ++ ys) (n + i) v ≡ xs ++ set ys i v
@@ -18,11 +21,6 @@ module _ {E : Type 0} where
 
   pub get_after : (xs ys : List E) (n i : ℕ) (z : E) → length xs ≡ n → get_or (xs ++ ys) (n + i) z ≡ get_or ys i z
   get_after xs ys n i z e = rw (← e) (get_or-append-add xs ys i z)
-
-  -- elements stored one after the other, at b + j and on
-  abbrev pub stores : List E → ℕ → ℕ → List E → List E
-  stores l b j [] = l
-  stores l b j (v ∷ vs) = stores (set l (b + j) v) b (suc j) vs
 
   pub stores-after : (xs ys : List E) (m b j : ℕ) (vs : List E) → length xs ≡ m → stores (xs ++ ys) (m + b) j vs ≡ xs ++ stores ys b j vs
   stores-after xs ys m b j [] e = refl
@@ -40,6 +38,11 @@ module _ {E : Type 0} where
       let e2 : length (pre ++ v ∷ []) ≡ b + suc j = rw length-append (omega arith) in
       ap (λ l. stores l b (suc j) vs) (set_at pre y (ys ++ rest) v (b + j) e ∙ sym (append_assoc pre (v ∷ []) (ys ++ rest)))
       ∙ (stores-over (pre ++ v ∷ []) ys vs rest b (suc j) e2 (omega arith) ∙ append_assoc pre (v ∷ []) (vs ++ rest))
+
+  -- a store past them
+  pub stores-set : (l : List E) (b j m : ℕ) (x : E) (vs : List E) → b + j + length vs ≤ m → set (stores l b j vs) m x ≡ stores (set l m x) b j vs
+  stores-set l b j m x [] p = refl
+  stores-set l b j m x (v ∷ vs) p = stores-set (set l (b + j) v) b (suc j) m x vs (omega arith) ∙ ap (λ k. stores k b (suc j) vs) (set_comm l (b + j) m v x (λ e. omega arith))
 
 module _ {E : Type 0} (z : E) where
   pub length-padded : (n : ℕ) (xs : List E) → length xs ≤ n → length (padded z n xs) ≡ n
@@ -163,13 +166,22 @@ module _ {A E : Type 0} (f : A → List E) where
 
 -- A region: rows from number m on, before and after other numbers, n numbers in all. The code's indices are b, b + 1 ..
 module _ {E : Type 0} where
-  abbrev pub stored : List E → ℕ → List E → List E
-  stored l b [] = l
-  stored l b (v ∷ vs) = stores (set l b v) b 1 vs
-
   pub stored_is : (l : List E) (b : ℕ) (vs : List E) → stored l b vs ≡ stores l b 0 vs
   stored_is l b [] = refl
   stored_is l b (v ∷ vs) = let e : b + 0 ≡ b = omega arith in rw e
+
+  -- numbers put over as many others
+  module _ (l : List E) (b k : ℕ) (vs : List E) (p : k ≡ length vs) (q : b + k ≤ length l) where
+    whole : take b l ++ (take (length vs) (drop b l) ++ drop k (drop b l)) ≡ l
+    whole = rw p (ap (λ ys. take b l ++ ys) (take-append-drop (length vs) (drop b l)) ∙ take-append-drop b l)
+
+    pub put-over : put_mid b k l vs ≡ stored l b vs
+    put-over = sym (stored_is l b vs ∙ (ap (λ m. stores m b 0 vs) (sym whole)
+        ∙ stores-over (take b l) (take (length vs) (drop b l)) vs (drop k (drop b l)) b 0 (simp length-take (omega arith)) (simp (length-take, length-drop) (omega arith))))
+
+  -- a store past them
+  pub stored-set : (l : List E) (b m : ℕ) (x : E) (vs : List E) → b + length vs ≤ m → set (stored l b vs) m x ≡ stored (set l m x) b vs
+  stored-set l b m x vs p = ap (λ l. set l m x) (stored_is l b vs) ∙ (stores-set l b 0 m x vs (omega arith) ∙ sym (stored_is (set l m x) b vs))
 
 module _ {A E : Type 0} (f : A → List E) (k : ℕ) (wide : (x : A) → length (f x) ≡ k) (z : E) (m n : ℕ) (pre post : List E) (long : length pre ≡ m) where
   abbrev pub region : List A → List E

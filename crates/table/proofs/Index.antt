@@ -1,6 +1,7 @@
 -- The index of names: what a note does, and that the stores keep it. Assumes nothing.
 use mathlib.Core.Path.{◌≡◌, refl, sym, ap, subst, ◌∙◌}
 use mathlib.Core.Bool.{Bool, true, false}
+use mathlib.Core.Option.{Option, none, some}
 use mathlib.Core.List.{List, [], ◌∷◌, ◌++◌}
 use Prim.Native.Nat.{ℕ, zero, suc, ◌+◌, ◌-◌, ◌*◌, ◌/◌, ◌%◌, ◌≤◌, ◌<◌}
 use native.Mathlib.Omega.{arith}
@@ -9,8 +10,11 @@ use lib.Dec.{eqb, ltb, leb}
 use lib.IntN.{ℤ}
 use lib.ListN.{length, get_or, set, length-append, length-set, get_or-append}
 use lib.Seq.{get_or-append-add, get_or-set_same, get_or-set_other}
-use borrow.Author.Tests.{eqb-true, eqb-false, ne_eqb, ltb-true, ltb-false, leb-true, leb-false}
-use Rattle.definition.specs.Limit.{max_rows, max_names}
+use borrow.Author.Tests.{eq-eqb, eqb-true, eqb-false, ne_eqb, ltb-true, ltb-false, leb-true, leb-false}
+use Rattle.std.specs.Prelude.{Option as StdOption, Some, None}
+use Rattle.std.specs.Option.{SomeIff}
+use Rattle.lemmas.specs.Options.{option}
+use Rattle.definition.specs.Limit.{max_names}
 use Rattle.definition.specs.Name.{no_name}
 use Rattle.definition.specs.Row.{Row, void, kind_of, row_name}
 use Rattle.definition.specs.RowKind.{typedef_kind}
@@ -20,7 +24,7 @@ use Rattle.definition.specs.Region.{names_at}
 use Rattle.table.specs.Held.{reading_words, no_value, half_of, value_slot, row_slot, indexed, marks_at, top_at, counts_of, Marked, InWords, bound_of, bound_for, Bounded, BoundedAt, Indexed, Encodes, tag_bound}
 use Rattle.table.specs.Noting.{Sooner, Lowered, RowNoted, NotesRow, TopNoted, NotesTop, from_bound, first_named, NoneBefore}
 use Rattle.table.specs.declared.Cursor.{Cursor}
-use Rattle.lemmas.proofs.Branch.{nay}
+use Rattle.lemmas.proofs.Branch.{yes, nay}
 use Rattle.table.proofs.Flat.{set_after, get_after}
 use Rattle.table.proofs.Regions.{table-long}
 
@@ -341,9 +345,9 @@ module _ (kind name : ℕ) (w : List ℕ) where
   held = bound_for kind (get_or w (names_at + row_slot name) 0)
 
   -- a search for a name begins by the bound at its slot
-  pub first_by : (at r : ℕ) → at ≡ names_at + row_slot name → (name ≡ no_name → ⊥) → r ≡ from_bound (bound_for kind (get_or w at 0)) → r ≡ first_named kind name w
+  pub first_by : (at : ℕ) {r : Option ℕ} → at ≡ names_at + row_slot name → (name ≡ no_name → ⊥) → r ≡ from_bound (bound_for kind (get_or w at 0)) → r ≡ first_named kind name w
   unfolding first_named
-  first_by at r e p q = q ∙ (ap (λ (i : ℕ). from_bound (bound_for kind (get_or w i 0))) e ∙ sym (nay _ _ _ (ne_eqb name no_name p)))
+  first_by at e p q = q ∙ (ap (λ (i : ℕ). from_bound (bound_for kind (get_or w i 0))) e ∙ sym (nay _ _ _ (ne_eqb name no_name p)))
 
   -- a row of that kind and name is bounded by it
   there : (t : Table) (h : InWords t w) → Indexed t.rows t.values h.rest → (i : ℕ) → i < length t.rows → kind_of (get_or t.rows i void) ≡ kind → row_name (get_or t.rows i void) ≡ name
@@ -352,12 +356,22 @@ module _ (kind name : ℕ) (w : List ℕ) where
       let g = rest-get h (row_slot name) (names_at + row_slot name) refl in
       subst (λ (z : ℕ). Bounded kind name i z) (sym g) (subst (λ (z : ℕ). Bounded kind z i (get_or h.rest (row_slot z) 0)) s (subst (λ (z : ℕ). Bounded z (row_name (get_or t.rows i void)) i (get_or h.rest (row_slot (row_name (get_or t.rows i void))) 0)) o (k.rows i q)))
 
-  before-by : {r : ℕ} (a b : Bool) → eqb name no_name ≡ a → eqb held 0 ≡ b → r ≡ elim a [ true ↦ 0 | false ↦ elim b [ true ↦ max_rows | false ↦ held - 1 ] ] → NoneBefore kind name w r
-  before-by true b x y e = record { of = λ t h k i q l o s. omega arith }
-  before-by false true x y e = record { of = λ t h k i q l o s. omega (arith, eqb-false name 0 x, eqb-true held 0 y, (there t h k i q o s).some (omega (arith, eqb-false name 0 x))) }
-  before-by false false x y e = record { of = λ t h k i q l o s. omega (arith, eqb-false name 0 x, eqb-false held 0 y, (there t h k i q o s).first (omega (arith, eqb-false name 0 x))) }
+  before-by : (r : StdOption ℕ) (a b : Bool) → eqb name no_name ≡ a → eqb held 0 ≡ b → option r ≡ elim a [ true ↦ some 0 | false ↦ elim b [ true ↦ none | false ↦ some (held - 1) ] ] → NoneBefore kind name w r
+  before-by (Some n) true b x y e = let z : n ≡ 0 = cc in record { of = λ t h k i q l o s. omega arith }
+  before-by None true b x y e = let z : ◌≡◌ {A = ℕ} 0 1 = cc in absurd (omega arith)
+  before-by (Some n) false true x y e = let z : ◌≡◌ {A = ℕ} 0 1 = cc in absurd (omega arith)
+  before-by None false true x y e = record { of = λ t h k i q l o s. omega (arith, eqb-false name 0 x, eqb-true held 0 y, (there t h k i q o s).some (omega (arith, eqb-false name 0 x))) }
+  before-by (Some n) false false x y e =
+      let z : n ≡ held - 1 = cc in
+      record { of = λ t h k i q l o s. omega (arith, eqb-false name 0 x, eqb-false held 0 y, (there t h k i q o s).first (omega (arith, eqb-false name 0 x))) }
+  before-by None false false x y e = let z : ◌≡◌ {A = ℕ} 0 1 = cc in absurd (omega arith)
 
   -- no row before where a search begins has both
-  pub none_before : {r : ℕ} → r ≡ first_named kind name w → NoneBefore kind name w r
+  pub none_before : {r : StdOption ℕ} → option r ≡ first_named kind name w → NoneBefore kind name w r
   unfolding first_named
-  none_before e = before-by (eqb name no_name) (eqb held 0) refl refl e
+  none_before {r} e = before-by r (eqb name no_name) (eqb held 0) refl refl e
+
+-- a bound less one, if it is one
+pub less_one : (r : StdOption ℕ) (b : ℕ) → SomeIff r (1 ≤ b) (b - 1) → option r ≡ from_bound b
+less_one None b p = sym (yes (eqb b 0) _ _ (eq-eqb b 0 (omega arith)))
+less_one (Some x) b p = ap some p.1 ∙ sym (nay (eqb b 0) _ _ (ne_eqb b 0 (λ e. omega (arith, p.0))))

@@ -17,10 +17,9 @@ use Rattle.definition.specs.Lent.{member_wides, value_words, parameter_words, wi
 use Rattle.definition.specs.Region.{members_at, names_at, values_at, parameters_at, declarations_at}
 use Rattle.table.specs.Held.{reading_words, value_slot, row_slot, top_at, Bounded, BoundedAt, no_member, no_value, no_parameter, Fits, Counts, InWords, Encodes, last_declaration_at, last_member_at, last_parameter_at, last_row_at, last_value_at}
 use Rattle.table.specs.Reply.{numbers, FirstSet}
-use Rattle.table.specs.Store.{row_set, member_row_set, member_place_set, value_row_set, parameter_row_set}
+use Rattle.table.specs.Store.{stored, number_list, row_set, member_row_set, member_place_set, value_row_set, parameter_row_set}
 use Rattle.table.specs.declared.Cursor.{Cursor}
 use Rattle.table.specs.declared.Numbers.{Numbers}
-use Rattle.table.proofs.Flat.{stored}
 use Rattle.table.proofs.Regions.{words_row, wides-row, words_set_row, wides_set_row, words-member, wides-member, words_member_row, wides_member_same, wides_member_place, words_member_same, words-value, signeds-value, words_value_row, signeds_value_same, words-parameter, words_parameter_row, words-declaration}
 use Rattle.table.proofs.Index.{half-below, index-past, marked_more, marked-on, index-row, index-put, index-value, index_renamed, rest-set}
 
@@ -32,9 +31,6 @@ set_either {start} {columns} {count} {i} {row} {w} {w'} P s there past = go (ltb
     go : (b : Bool) → ltb i count ≡ b → P w'
     go true q = let p : i < count = ltb-true _ _ q in rw (s.there p) (there p)
     go false q = let p : count ≤ i = ltb-false _ _ q in rw (s.past p) (past p)
-
-abbrev pub number_list : Numbers → List ℕ
-number_list r = r.kind ∷ r.target ∷ r.flags ∷ r.name ∷ r.first ∷ r.count ∷ []
 
 module _ {t : Table} {c : Cursor} {w d : List ℕ} {v : List ℤ} (h : Encodes t c w d v) where
   fit : Fits t

@@ -7,3 +7,5 @@ pub mod Rounds
 pub mod Index
 pub mod Leaves
 pub mod Columns
+pub mod Passing
+pub mod Widths

@@ -11,7 +11,8 @@ use Rattle.definition.specs.Table.{Table, Member, Value, Parameter, Declaration,
 use Rattle.definition.specs.Lent.{padded, flat, row_words, member_words, value_words, parameter_words, declaration_words, row_wides, member_wides, value_signeds, table_words, wides, signeds}
 use Rattle.definition.specs.Region.{words_length, wides_length, signeds_length, names_at, values_at, parameters_at, declarations_at, members_at}
 use Rattle.table.specs.Held.{reading_words, no_member, no_value, no_parameter, no_declaration, Fits}
-use Rattle.table.proofs.Flat.{length-padded, length-flat, flat-same, stored, region-add, region-put, region-number, region-get}
+use Rattle.table.specs.Store.{stored}
+use Rattle.table.proofs.Flat.{length-padded, length-flat, flat-same, region-add, region-put, region-number, region-get}
 
 -- ---- the parts
 

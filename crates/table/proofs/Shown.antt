@@ -126,6 +126,11 @@ module _ {X B : Type 0} {pack : X → State → B} {a : Answer B} {w d : List �
       → Shows pack a (bad n p) w d v → IsErrAnd r (λ y. y ≡ e) → g (Err e) ≡ bad n p → Shows pack' (a >>= k) (g r) w d v
   exit {r = r} g k h q z = let x = err_from_is_err_and r q in rw (x.1, x.2) (refuse k h refl z)
 
+-- a `?` on a test of a limit: the caller is refused by its own map g
+pub passed : {X Z B : Type 0} {pack : X → State → B} {t : Table} {c : Cursor} {w d : List ℕ} {v : List ℤ} {r : Result Z Refusal} {e : Refusal} {n p : ℕ} (g : Result Z Refusal → Reply X)
+    → Encodes t c w d v → IsErrAnd r (λ y. y ≡ e) → g (Err e) ≡ bad n p → Shows pack (refused n p) (g r) w d v
+passed {r = r} g h q z = let x = err_from_is_err_and r q in rw (x.1, x.2) (no! h z)
+
 pub held_next : {X B : Type 0} {pack : X → State → B} {f : State → Answer B} {c c' : Cursor} {i : X} {w d w' d' : List ℕ} {v v' : List ℤ}
     → Runs pack f c w d v (ok c' i) w' d' v' → Held c w d v → Held c' w' d' v'
 held_next g h = held (went (g.run h.table h.encodes) refl).holds

@@ -11,6 +11,9 @@ use Rattle.definition.specs.Refusal.{missing_mark}
 use Rattle.definition.specs.Token.{Tokens, need}
 use Rattle.definition.specs.Table.{State, skip}
 use Rattle.definition.specs.Grammar.{needed}
+use Rattle.encoding.specs.Kinds.{kind_number, kind_numbers}
+use Rattle.encoding.specs.declared.token_kinds.TokenKind.{TokenKind}
+use Rattle.std.proofs.lemmas.List.{length-map}
 use Rattle.table.specs.Ends.{Ends}
 use Rattle.table.specs.Reply.{Peek}
 use Rattle.table.proofs.Branch.{eq+, eq-, via, halt}
@@ -24,6 +27,11 @@ there' (x ∷ xs) (suc i) k e = let h = there' xs i k e in omega arith
 
 pub there : {ks : List ℕ} {i k b : ℕ} → Peek ks i k → k ≡ suc b → i < length ks
 there {ks} {i} {k} {b} p e = there' ks i b (sym p.is ∙ e)
+
+-- and one of the code's
+pub inside : (ks : List TokenKind) {i k : ℕ} → Peek (kind_numbers ks) i k → 0 < k → i < length ks
+inside ks {k = zero} p e = absurd (omega (arith, e))
+inside ks {k = suc b} p e = omega (arith, there {b = b} p (λ i. suc b), length-map ks kind_number)
 
 -- a test of what was read
 module _ {A : Type 0} {Q : A → Type 0} {ks : List ℕ} {i k b : ℕ} (x y : A) (p : Peek ks i k) where

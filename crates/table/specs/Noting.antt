@@ -1,6 +1,7 @@
 -- What a note in the index does to whatever table the slice holds.
-use Rattle.std.specs.Prelude.{◌≡◌, Bool, true, false, List, ℕ, ◌+◌, ◌-◌, ◌*◌, ◌≤◌, ◌<◌, eqb, length, get_or}
-use Rattle.definition.specs.Limit.{max_rows, max_names}
+use Rattle.std.specs.Prelude.{◌≡◌, Bool, true, false, List, ℕ, ◌+◌, ◌-◌, ◌*◌, ◌≤◌, ◌<◌, eqb, length, get_or, Option as StdOption, Some, None, ⊤}
+use Rattle.std.proofs.Math.Option.{Option, none, some}
+use Rattle.definition.specs.Limit.{max_names}
 use Rattle.definition.specs.Name.{no_name}
 use Rattle.definition.specs.Region.{names_at}
 use Rattle.definition.specs.Row.{void, kind_of, row_name}
@@ -45,15 +46,20 @@ pub record TopNoted (name : ℕ) (t : Table) (before w' : List ℕ) : Type 0 whe
 pub record NotesTop (name : ℕ) (w w' : List ℕ) : Type 0 where
   pub run : (t : Table) (h : InWords t w) → TopNoted name t h.rest w'
 
--- Where a search by a bound begins: at the row that it is one above, or after every row where there is no bound.
-abbrev pub from_bound : ℕ → ℕ
-from_bound bound = elim (eqb bound 0) [ true ↦ max_rows | false ↦ bound - 1 ]
+-- Where a search by a bound begins, if it may find one: at the row that it is one above.
+abbrev pub from_bound : ℕ → Option ℕ
+from_bound bound = elim (eqb bound 0) [ true ↦ none | false ↦ some (bound - 1) ]
 
 -- Where a search for a row of a kind and a name begins by the index in w: for no name at the first row.
-unfoldable pub first_named : ℕ → ℕ → List ℕ → ℕ
-first_named kind name w = elim (eqb name no_name) [ true ↦ 0 | false ↦ from_bound (bound_for kind (get_or w (names_at + row_slot name) 0)) ]
+unfoldable pub first_named : ℕ → ℕ → List ℕ → Option ℕ
+first_named kind name w = elim (eqb name no_name) [ true ↦ some 0 | false ↦ from_bound (bound_for kind (get_or w (names_at + row_slot name) 0)) ]
+
+-- before where a search begins: every row, where it need not begin
+abbrev pub Before : ℕ → StdOption ℕ → Type 0
+Before i (Some r) = i < r
+Before i None = ⊤
 
 -- No row before r has the kind and the name: the law of `firstNamed`, by which a search may begin there.
-pub record NoneBefore (kind name : ℕ) (w : List ℕ) (r : ℕ) : Type 0 where
+pub record NoneBefore (kind name : ℕ) (w : List ℕ) (r : StdOption ℕ) : Type 0 where
   pub of : (t : Table) (h : InWords t w) → Indexed t.rows t.values h.rest
-      → (i : ℕ) → i < length t.rows → i < r → kind_of (get_or t.rows i void) ≡ kind → row_name (get_or t.rows i void) ≡ name → ⊥
+      → (i : ℕ) → i < length t.rows → Before i r → kind_of (get_or t.rows i void) ≡ kind → row_name (get_or t.rows i void) ≡ name → ⊥

@@ -5,6 +5,7 @@ use Rattle.definition.specs.Row.{Row, kind_of, target_of, flags_of, row_name, sp
 use Rattle.definition.specs.Table.{Table, Declaration as MeantDeclaration, State, Reads}
 use Rattle.encoding.specs.Refusals.{number_of}
 use Rattle.encoding.specs.Storage.{storage}
+use Rattle.encoding.specs.declared.refusals.Reason.TheVariants.{LimitPassed}
 use Rattle.encoding.specs.declared.refusals.Refusal.{Refusal}
 use Rattle.table.specs.Ends.{Ends}
 use Rattle.table.specs.Held.{state, Encodes, InWords, InWides, InSigneds, Left}
@@ -101,6 +102,11 @@ pub record Peek (xs : List ℕ) (at k : ℕ) : Type 0 where
 pub record Entry {X : Type 0} (start columns limit : ℕ) (xs : List X) (i column : ℕ) (z r : X) : Type 0 where
   pub there : i < limit → r ≡ get_or xs (start + (columns * i + column)) z
   pub past : limit ≤ i → r ≡ z
+
+-- One entry more than there are, up to a limit: else 27 at the token not yet read.
+abbrev pub OneMore : ℕ → ℕ → ℕ → Result (Unit {0}) Refusal → Type 0
+OneMore limit count at (Ok _) = count < limit
+OneMore limit count at (Err e) = (limit ≤ count) × (e ≡ record { reason = LimitPassed; at = at })
 
 -- The first number of entry i is set, where there is one.
 pub record FirstSet (start columns count i row : ℕ) (w w' : List ℕ) : Type 0 where

@@ -1,14 +1,16 @@
 -- What the stores do, in the definition's terms.
-use Rattle.std.specs.Prelude.{List, ℕ, ℤ, set}
+use Rattle.std.specs.Prelude.{◌≡◌, List, [], ◌∷◌, ℕ, suc, ℤ, ◌+◌, ◌*◌, set}
 use Rattle.std.proofs.Math.Option.{Option}
 use Rattle.definition.specs.Row.{Row}
-use Rattle.definition.specs.Table.{Table, Storage, Reads, with_rows, with_members, with_values, with_parameters, push_member, push_value, push_parameter, push_declaration}
+use Rattle.definition.specs.Table.{Table, Reads, with_rows, with_members, with_values, with_parameters, push_member, push_value, push_parameter}
 use Rattle.definition.specs.Layout.{located}
 use Rattle.definition.specs.Composite.{with_row}
 use Rattle.definition.specs.Enumeration as Enumeration
 use Rattle.table.specs.Held.{member_at, value_at, parameter_at}
 use Rattle.table.specs.Reply.{Changes}
+use Rattle.table.specs.Noting.{NotesRow, NotesTop}
 use Rattle.table.specs.declared.Cursor.{Cursor}
+use Rattle.table.specs.declared.Numbers.{Numbers}
 
 abbrev pub member_pushed : ℕ → ℕ → ℕ → ℕ → Option ℕ → Reads ℕ
 member_pushed row type name offset width = push_member (record { row = row; type = type; name = name; width = width; offset = offset; first_bit = 0 })
@@ -19,8 +21,28 @@ value_pushed row name value = push_value (record { row = row; name = name; value
 abbrev pub parameter_pushed : ℕ → ℕ → ℕ → Reads ℕ
 parameter_pushed row type name = push_parameter (record { row = row; type = type; name = name })
 
-abbrev pub declaration_pushed : ℕ → ℕ → Storage → Reads ℕ
-declaration_pushed type name storage = push_declaration (record { storage = storage; type = type; name = name })
+-- numbers stored one after the other: the first at b + j
+abbrev pub stores : {E : Type 0} → List E → ℕ → ℕ → List E → List E
+stores l b j [] = l
+stores l b j (x ∷ xs) = stores (set l (b + j) x) b (suc j) xs
+
+-- the first at b
+abbrev pub stored : {E : Type 0} → List E → ℕ → List E → List E
+stored l b [] = l
+stored l b (x ∷ xs) = stores (set l b x) b 1 xs
+
+-- the numbers of a row in the 32-bit slice
+abbrev pub number_list : Numbers → List ℕ
+number_list r = r.kind ∷ r.target ∷ r.flags ∷ r.name ∷ r.first ∷ r.count ∷ []
+
+-- Row n is put, after its name and its kind were noted in the index.
+pub record RowPut (n : ℕ) (r : Numbers) (w d w' d' : List ℕ) : Type 0 where
+  pub topped : List ℕ
+  pub noted : List ℕ
+  pub notes_top : NotesTop r.name w topped
+  pub notes_row : NotesRow r.kind r.name n topped noted
+  pub words : w' ≡ stored noted (6 * n) (number_list r)
+  pub wides : d' ≡ set d n r.extent
 
 -- nothing changes past the last
 abbrev pub row_set : ℕ → Row → Table → Table

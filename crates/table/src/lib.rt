@@ -11,18 +11,22 @@
 //
 // A width is 0 for a plain member, else 1 more than the bit-field's. While the text is read an index stands in the place of the names (Held.antt). A cursor goes along by value: the
 // token not yet read, and how many of each there are; entries after these are zero, so that every read is total: 0 past the end.
-ghost use Rattle.std.specs.Prelude.{◌≡◌, ◌+◌, ◌-◌, ◌*◌, ◌≤◌, ◌<◌, eqb, length, get_or, set};
+ghost use Rattle.std.specs.Prelude.{◌≡◌, ◌+◌, ◌*◌, ◌≤◌, ◌<◌, eqb, length, get_or, set};
 ghost use Rattle.definition.specs.Limit.{max_rows};
 ghost use Rattle.definition.specs.RowKind.{typedef_kind};
 ghost use Rattle.definition.specs.Row.{kind_of, target_of, flags_of, row_name, span_of, extent_of};
-ghost use Rattle.definition.specs.Table.{row_at, storage_number, push_row, push_declaration};
+ghost use Rattle.definition.specs.Table.{row_at, push_row, push_declaration};
 ghost use Rattle.definition.specs.Types.{width_number};
 ghost use Rattle.definition.specs.Lent.{row_words, member_words, member_wides, value_words, parameter_words, declaration_words};
 ghost use Rattle.definition.specs.Region.{words_length, wides_length, names_at};
+ghost use Rattle.encoding.specs.Kinds.{kind_number, kind_numbers};
+ghost use Rattle.lemmas.specs.Options.{option};
 ghost use Rattle.table.specs.Held.{half_of, indexed, bound_for, value_slot, moved_to, member_at, value_at, parameter_at, declaration_at, Held, Room};
-ghost use Rattle.table.specs.Reply.{reply, numbers, declaration, Does, DoesAs, ChangesAs, WordIs, WideIs, SignedIs, DeclarationIs, Peek, Entry, FirstSet};
+ghost use Rattle.table.specs.Marks.{Passes};
+ghost use Rattle.table.specs.Reply.{reply, numbers, declaration, Does, DoesAs, ChangesAs, WordIs, WideIs, SignedIs, DeclarationIs, Peek, Entry, OneMore, FirstSet};
+ghost use Rattle.table.specs.Widths.{Storable, WidthIs};
 ghost use Rattle.table.specs.Noting.{Sooner, Lowered, NotesRow, NotesTop, first_named, NoneBefore};
-ghost use Rattle.table.specs.Store.{member_pushed, value_pushed, parameter_pushed, declaration_pushed, row_set, member_row_set, member_place_set, value_row_set, parameter_row_set, ChangesWords, ChangesWides};
+ghost use Rattle.table.specs.Store.{member_pushed, value_pushed, parameter_pushed, stored, RowPut, row_set, member_row_set, member_place_set, value_row_set, parameter_row_set, ChangesWords, ChangesWides};
 
 use encoding::refusals::{Reason, Refusal};
 use encoding::regions::{
@@ -31,6 +35,7 @@ use encoding::regions::{
 };
 use encoding::row_kinds::TYPEDEF_KIND;
 use encoding::storage::Storage;
+use encoding::token_kinds::TokenKind;
 use model::Model;
 
 // The index, in the place of the names: a number for the values of a name and one for its rows.
@@ -113,22 +118,51 @@ impl Cursor {
     {
         Cursor { at, ..self }
     }
+
+    // Past a mark, which must stand here.
+    pub fn past(self, kinds: &[TokenKind], mark: TokenKind) -> Result<Cursor, Refusal>
+        requires { 0 < kind_number mark }
+        ensures { Passes (kind_numbers kinds.now) (kind_number mark) self result }
+    {
+        let at = self.at;
+        if kind_at(kinds, at) != mark {
+            return Err(Refusal {
+                reason: Reason::MissingMark,
+                at,
+            });
+        }
+        Ok(self.moved(at + 1))
+    }
 }
 
 // ---- reads
 
-// The kind of a token, or a number of w: 0 past the end.
-pub fn kind_at(kinds: &[u32], at: usize) -> u32
-    ensures { Peek kinds.now at result }
+// A number of a slice: zero past the end.
+fn at<T: Copy>(xs: &[T], i: usize, zero: T) -> T
+    ensures { result ≡ get_or xs.now i zero }
 {
-    kinds.get(at).copied().unwrap_or(0)
+    xs.get(i).copied().unwrap_or(zero)
 }
 
-// The number of a token, or of d: 0 past the end.
+// The kind of a token: the end's past the last.
+pub fn kind_at(kinds: &[TokenKind], at: usize) -> TokenKind
+    ensures { Peek (kind_numbers kinds.now) at (kind_number result) }
+{
+    kinds.get(at).copied().unwrap_or(TokenKind::End)
+}
+
+// A number of w.
+pub fn word_at(w: &[u32], at: usize) -> u32
+    ensures { Peek w.now at result }
+{
+    self::at(w, at, 0)
+}
+
+// The number of a token.
 pub fn number_at(numbers: &[u64], at: usize) -> u64
     ensures { Peek numbers.now at result }
 {
-    numbers.get(at).copied().unwrap_or(0)
+    self::at(numbers, at, 0)
 }
 
 // Entries in a slice: where the first begins, how many numbers each has, how many there may be.
@@ -190,9 +224,29 @@ impl Region {
         if self.limit <= i {
             return zero;
         }
-        xs.get(self.start + self.columns * i + column)
-            .copied()
-            .unwrap_or(zero)
+        at(xs, self.start + self.columns * i + column, zero)
+    }
+
+    // One entry more than there are: refused where there are as many as may be.
+    fn one_more(self, count: usize, at: usize) -> Result<(), Refusal>
+        ensures { OneMore self.limit count at result }
+    {
+        if self.limit <= count {
+            return Err(Refusal {
+                reason: Reason::LimitPassed,
+                at,
+            });
+        }
+        Ok(())
+    }
+
+    // The numbers of entry i.
+    fn put<T: Copy, const N: usize>(self, xs: &mut [T], i: usize, numbers: [T; N])
+        requires { self.start + self.columns * i + N ≤ length xs.old }
+        ensures { xs.new ≡ stored xs.old (self.start + self.columns * i) numbers }
+    {
+        let first = self.start + self.columns * i;
+        xs[first..first + N].copy_from_slice(&numbers);
     }
 
     // The first number of entry i, where it is one of those that there are: the row that it carries.
@@ -282,10 +336,10 @@ pub fn member_name(w: &[u32], i: usize) -> u32
     member_word(w, i, 2)
 }
 
-pub fn member_width(w: &[u32], i: usize) -> u32
-    ensures { WordIs (λ t. width_number (member_at t i).width) w.now result }
+pub fn member_width(w: &[u32], i: usize) -> Option<u32>
+    ensures { WidthIs i w.now result }
 {
-    member_word(w, i, 3)
+    member_word(w, i, 3).checked_sub(1)
 }
 
 // The 64-bit columns of members.
@@ -332,7 +386,7 @@ pub fn value_name(w: &[u32], i: usize) -> u32
 pub fn value_at(v: &[i64], i: usize) -> i64
     ensures { SignedIs (λ t. (value_at t i).value) v.now result }
 {
-    v.get(i).copied().unwrap_or(0)
+    at(v, i, 0)
 }
 
 // The columns of parameters.
@@ -376,7 +430,7 @@ pub fn declaration_at(w: &[u32], i: usize) -> Declaration
     let ty = declaration_word(w, i, 1);
     let name = declaration_word(w, i, 2);
     Declaration {
-        storage: Storage::numbered(number),
+        storage: Storage::from(number),
         ty,
         name,
     }
@@ -396,7 +450,7 @@ fn note_top(w: &mut [u32], name: u32)
     requires { length w.old ≡ words_length }
     ensures { NotesTop name w.old w.new }
 {
-    let end = (name_slot(name as u64) + 2) as u32;
+    let end = (name_slot(u64::from(name)) + 2) as u32;
     if w[TOP] < end {
         w[TOP] = end;
     }
@@ -431,7 +485,7 @@ fn note_row(w: &mut [u32], kind: u32, name: u32, n: usize)
     if name == 0 {
         return;
     }
-    let at = ROW_INDEX_AT + name_slot(name as u64);
+    let at = ROW_INDEX_AT + name_slot(u64::from(name));
     w[at] = lowered(w[at], kind, (n + 1) as u32);
 }
 
@@ -440,7 +494,7 @@ fn note_value(w: &mut [u32], name: u32, n: usize)
     requires { (length w.old ≡ words_length) × (n < 4096) }
     ensures { w.new ≡ set w.old (names_at + value_slot name) (n + 1) }
 {
-    w[INDEX_AT + name_slot(name as u64)] = (n + 1) as u32;
+    w[INDEX_AT + name_slot(u64::from(name))] = (n + 1) as u32;
 }
 
 // The bound for rows of a kind in a noted number.
@@ -454,38 +508,44 @@ fn bound_for(noted: u32, kind: u32) -> u32
     }
 }
 
-// A row that is counted from 1.
-fn row_before(bound: u32) -> usize
-    requires { 0 < bound }
-    ensures { result ≡ bound - 1 }
-{
-    bound as usize - 1
-}
-
 // Before which value a search for the last one of a name begins: no value from there on has the name.
 pub fn value_bound(w: &[u32], name: u64) -> u32
     ensures { result ≡ get_or w.now (names_at + value_slot name) 0 }
 {
-    kind_at(w, INDEX_AT + name_slot(name))
+    at(w, INDEX_AT + name_slot(name), 0)
 }
 
-// Where a search for a row of a kind and a name begins: no row before has both.
-pub fn first_named(w: &[u32], kind: u32, name: u32) -> usize
+// Where a search for a row of a kind and a name begins, if there may be one: no row before has both.
+pub fn first_named(w: &[u32], kind: u32, name: u32) -> Option<usize>
     requires { length w.now ≡ words_length }
-    ensures at { result ≡ first_named kind name w.now }
+    ensures at { option result ≡ first_named kind name w.now }
     ensures none_before { NoneBefore kind name w.now result }
 {
     if name == 0 {
-        return 0;
+        return Some(0);
     }
-    let bound = bound_for(w[ROW_INDEX_AT + name_slot(name as u64)], kind);
-    if bound == 0 {
-        return Model::MAX_ROWS;
-    }
-    row_before(bound)
+    let bound = bound_for(w[ROW_INDEX_AT + name_slot(u64::from(name))], kind);
+    (bound as usize).checked_sub(1)
 }
 
 // ---- stores
+
+// Row n, which the index notes.
+fn put_row(w: &mut [u32], d: &mut [u64], n: usize, row: Numbers)
+    requires { (length w.old ≡ words_length) × ((length d.old ≡ wides_length) × (n < max_rows)) }
+    ensures { RowPut n row w.old d.old w.new d.new }
+{
+    note_top(w, row.name);
+    note_row(w, row.kind, row.name, n);
+    ROWS.put(
+        w,
+        n,
+        [
+            row.kind, row.target, row.flags, row.name, row.first, row.count,
+        ],
+    );
+    EXTENTS.put(d, n, [row.extent]);
+}
 
 // The next row: refused where there are as many as may be.
 pub fn push_row(w: &mut [u32], d: &mut [u64], v: &mut [i64], c: Cursor, row: Numbers) -> Answer<u32>
@@ -493,24 +553,20 @@ pub fn push_row(w: &mut [u32], d: &mut [u64], v: &mut [i64], c: Cursor, row: Num
     ensures { DoesAs numbers row push_row c w.old d.old v.old (reply result) w.new d.new v.new }
 {
     let n = c.rows;
-    if Model::MAX_ROWS <= n {
-        return Err(Refusal {
-            reason: Reason::LimitPassed,
-            at: c.at,
-        });
-    }
-    note_top(w, row.name);
-    note_row(w, row.kind, row.name, n);
+    ROWS.one_more(n, c.at)?;
+    put_row(w, d, n, row);
     w[LAST_ROW] = n as u32;
-    let b = ROW_COLUMNS * n;
-    w[b] = row.kind;
-    w[b + 1] = row.target;
-    w[b + 2] = row.flags;
-    w[b + 3] = row.name;
-    w[b + 4] = row.first;
-    w[b + 5] = row.count;
-    d[n] = row.extent;
     Ok((Cursor { rows: n + 1, ..c }, n as u32))
+}
+
+// The number of a width: 0 for a plain member, else 1 more than the bit-field's.
+fn width_number(width: Option<u32>) -> u32
+    ensures { Storable width → result ≡ width_number (option width) }
+{
+    match width {
+        None => 0,
+        Some(bits) => bits.saturating_add(1),
+    }
 }
 
 // The next member; its first bit is known when its body is laid out.
@@ -522,28 +578,17 @@ pub fn push_member(
     row: u32,
     ty: u32,
     name: u32,
-    width: u32,
+    width: Option<u32>,
     offset: u64,
 ) -> Answer<u32>
     requires { Held c w.old d.old v.old }
-    ensures { DoesAs width_number width (member_pushed row ty name offset) c w.old d.old v.old (reply result) w.new d.new v.new }
+    ensures { Storable width → Does (member_pushed row ty name offset (option width)) c w.old d.old v.old (reply result) w.new d.new v.new }
 {
     let n = c.members;
-    if Model::MAX_MEMBERS <= n {
-        return Err(Refusal {
-            reason: Reason::LimitPassed,
-            at: c.at,
-        });
-    }
+    MEMBERS.one_more(n, c.at)?;
+    MEMBERS.put(w, n, [row, ty, name, width_number(width)]);
+    PLACES.put(d, n, [offset, 0]);
     w[LAST_MEMBER] = n as u32;
-    let b = MEMBERS_AT + MEMBER_COLUMNS * n;
-    w[b] = row;
-    w[b + 1] = ty;
-    w[b + 2] = name;
-    w[b + 3] = width;
-    let e = MEMBER_WIDES_AT + MEMBER_WIDE_COLUMNS * n;
-    d[e] = offset;
-    d[e + 1] = 0;
     Ok((
         Cursor {
             members: n + 1,
@@ -567,19 +612,12 @@ pub fn push_value(
     ensures { Does (value_pushed row name value) c w.old d.old v.old (reply result) w.new d.new v.new }
 {
     let n = c.values;
-    if Model::MAX_VALUES <= n {
-        return Err(Refusal {
-            reason: Reason::LimitPassed,
-            at: c.at,
-        });
-    }
+    VALUES.one_more(n, c.at)?;
     note_top(w, name);
     note_value(w, name, n);
-    w[LAST_VALUE] = n as u32;
-    let b = VALUES_AT + VALUE_COLUMNS * n;
-    w[b] = row;
-    w[b + 1] = name;
+    VALUES.put(w, n, [row, name]);
     v[n] = value;
+    w[LAST_VALUE] = n as u32;
     Ok((Cursor { values: n + 1, ..c }, n as u32))
 }
 
@@ -597,17 +635,9 @@ pub fn push_parameter(
     ensures { Does (parameter_pushed row ty name) c w.old d.old v.old (reply result) w.new d.new v.new }
 {
     let n = c.parameters;
-    if Model::MAX_PARAMETERS <= n {
-        return Err(Refusal {
-            reason: Reason::LimitPassed,
-            at: c.at,
-        });
-    }
+    PARAMETERS.one_more(n, c.at)?;
+    PARAMETERS.put(w, n, [row, ty, name]);
     w[LAST_PARAMETER] = n as u32;
-    let b = PARAMETERS_AT + PARAMETER_COLUMNS * n;
-    w[b] = row;
-    w[b + 1] = ty;
-    w[b + 2] = name;
     Ok((
         Cursor {
             parameters: n + 1,
@@ -618,40 +648,6 @@ pub fn push_parameter(
 }
 
 // The next declaration.
-pub fn push_declaration(
-    w: &mut [u32],
-    d: &mut [u64],
-    v: &mut [i64],
-    c: Cursor,
-    storage: u32,
-    ty: u32,
-    name: u32,
-) -> Answer<u32>
-    requires { Held c w.old d.old v.old }
-    ensures { DoesAs storage_number storage (declaration_pushed ty name) c w.old d.old v.old (reply result) w.new d.new v.new }
-{
-    let n = c.declarations;
-    if Model::MAX_DECLARATIONS <= n {
-        return Err(Refusal {
-            reason: Reason::LimitPassed,
-            at: c.at,
-        });
-    }
-    w[LAST_DECLARATION] = n as u32;
-    let base = DECLARATIONS_AT + DECLARATION_COLUMNS * n;
-    w[base] = storage;
-    w[base + 1] = ty;
-    w[base + 2] = name;
-    Ok((
-        Cursor {
-            declarations: n + 1,
-            ..c
-        },
-        n as u32,
-    ))
-}
-
-// The same for a declaration of the code.
 pub fn push_declared(
     w: &mut [u32],
     d: &mut [u64],
@@ -662,8 +658,17 @@ pub fn push_declared(
     requires { Held c w.old d.old v.old }
     ensures { Does (push_declaration (declaration x)) c w.old d.old v.old (reply result) w.new d.new v.new }
 {
-    let storage = x.storage;
-    push_declaration(w, d, v, c, storage.number(), x.ty, x.name)
+    let n = c.declarations;
+    DECLARATIONS.one_more(n, c.at)?;
+    DECLARATIONS.put(w, n, [u32::from(x.storage), x.ty, x.name]);
+    w[LAST_DECLARATION] = n as u32;
+    Ok((
+        Cursor {
+            declarations: n + 1,
+            ..c
+        },
+        n as u32,
+    ))
 }
 
 // A row put in the place of row n, where there is one.
@@ -673,16 +678,7 @@ pub fn set_row(w: &mut [u32], d: &mut [u64], v: &mut [i64], c: Cursor, n: u32, r
 {
     let i = n as usize;
     if i < c.rows {
-        note_top(w, row.name);
-        note_row(w, row.kind, row.name, i);
-        let b = ROW_COLUMNS * i;
-        w[b] = row.kind;
-        w[b + 1] = row.target;
-        w[b + 2] = row.flags;
-        w[b + 3] = row.name;
-        w[b + 4] = row.first;
-        w[b + 5] = row.count;
-        d[i] = row.extent;
+        put_row(w, d, i, row);
     }
 }
 
@@ -716,8 +712,6 @@ pub fn set_member_place(d: &mut [u64], c: Cursor, i: usize, offset: u64, bit: u6
     ensures { ChangesWides (member_place_set i offset bit) c d.old d.new }
 {
     if i < c.members {
-        let b = MEMBER_WIDES_AT + MEMBER_WIDE_COLUMNS * i;
-        d[b] = offset;
-        d[b + 1] = bit;
+        PLACES.put(d, i, [offset, bit]);
     }
 }

@@ -1,17 +1,15 @@
 #![tactic(auto)]
 // Rows equal "as the Rust's types are, first bits not compared", `add` of an unnamed type, and `qualified`.
 ghost use Rattle.std.specs.Prelude.{◌≤◌, ◌<◌, length};
-ghost use Rattle.definition.specs.Limit.{max_rows};
 ghost use Rattle.definition.specs.Row.{qualified, qualifier_bits};
 ghost use Rattle.definition.specs.Table.{row_at};
 ghost use Rattle.definition.specs.Types.{same_row, equal_row, add, qualify};
-ghost use Rattle.definition.specs.Region.{members_at};
 ghost use Rattle.table.specs.Held.{Held, Room};
 ghost use Rattle.table.specs.Reply.{reply, numbers, Does, DoesAs};
 ghost use Rattle.words.specs.Meaning.{qualifiers};
 ghost use Rattle.type_rows.specs.Equal.{NumbersSame, EntriesSame, RowSays, RowFinds, MergedBits};
 
-use encoding::regions::{MEMBERS_AT, OPEN_LIST, ROW_COLUMNS, ROW_TARGET};
+use encoding::regions::{OPEN_LIST, WORDS};
 use encoding::row_kinds::{ENUM_KIND, FUNCTION_KIND, QUALIFIED_KIND};
 use same_entries::{same_members, same_parameters, same_values};
 use table::{
@@ -20,9 +18,9 @@ use table::{
 };
 use words::qualifiers::Qualifiers;
 
-// The numbers of a new row are those of row n, but for where their entries stand.
+// The numbers of a new row are those of row n, but for where their entries stand. Few rows are of its kind, so one after the other: `==` on `Numbers` reads all of each row.
 #[tactic(auto, unfolding(definition::specs::Types::same_numbers))]
-fn same_numbers(w: &[u32], d: &[u64], row: Numbers, n: u32) -> bool
+fn same_numbers(w: &[u32; WORDS], d: &[u64], row: Numbers, n: u32) -> bool
     ensures { NumbersSame row n w.now d.now result }
 {
     row.kind == row_kind(w, n)
@@ -35,7 +33,7 @@ fn same_numbers(w: &[u32], d: &[u64], row: Numbers, n: u32) -> bool
 
 // The entries of a new row, which carry its list's mark, are those of row n, which has as many.
 #[tactic(auto, unfolding(definition::specs::Types::same_entries, definition::specs::Table::mark_of))]
-fn same_entries(w: &[u32], d: &[u64], v: &[i64], c: Cursor, row: Numbers, n: u32) -> bool
+fn same_entries(w: &[u32; WORDS], d: &[u64], v: &[i64], c: Cursor, row: Numbers, n: u32) -> bool
     requires { row.first ≤ 4096 }
     ensures { EntriesSame row n c w.now d.now v.now result }
 {
@@ -50,40 +48,22 @@ fn same_entries(w: &[u32], d: &[u64], v: &[i64], c: Cursor, row: Numbers, n: u32
 }
 
 #[tactic(auto, unfolding(definition::specs::Types::same_row), using(crate::proofs::Same::same_count))]
-fn same_row(w: &[u32], d: &[u64], v: &[i64], c: Cursor, row: Numbers, n: u32) -> bool
+fn same_row(w: &[u32; WORDS], d: &[u64], v: &[i64], c: Cursor, row: Numbers, n: u32) -> bool
     requires { row.first ≤ 4096 }
     ensures { RowSays (λ t x. same_row t x n (row_at t n)) row c w.now d.now v.now result }
 {
     same_numbers(w, d, row, n) && same_entries(w, d, v, c, row, n)
 }
 
-// Row i, in a slice that has all rows, equals a new one. Few rows are of its kind and target, so these are compared first.
-#[tactic(auto, using(crate::proofs::Same::columns), unfolding(definition::specs::Types::same_numbers, definition::specs::Types::same_row))]
-fn is_equal(w: &[u32], d: &[u64], v: &[i64], c: Cursor, row: Numbers, i: usize) -> bool
-    requires i_lt_max_rows { i < max_rows }
-    requires members_at_in_bounds { members_at ≤ length w.now }
-    requires first_bound { row.first ≤ 4096 }
-    ensures { RowSays (λ t x. same_row t x i (row_at t i)) row c w.now d.now v.now result }
-{
-    let at = ROW_COLUMNS * i;
-    row.kind == w[at] && row.target == w[at + ROW_TARGET] && same_row(w, d, v, c, row, i as u32)
-}
-
-// The first row that a new one equals. A slice shorter than all rows holds no table.
-#[tactic(auto, using(crate::proofs::Same::searches))]
+// The first row that a new one equals. A slice of another length holds no table.
 pub fn equal_row(w: &[u32], d: &[u64], v: &[i64], c: Cursor, row: Numbers) -> Option<u32>
     requires { Room c × (row.first ≤ 4096) }
     ensures { RowFinds (λ t x. equal_row t x 0 t.rows) row c w.now d.now v.now result }
 {
-    if w.len() < MEMBERS_AT {
+    let Ok(w) = <&[u32; WORDS]>::try_from(w) else {
         return None;
-    }
-    for i in 0..c.rows {
-        if is_equal(w, d, v, c, row, i) {
-            return Some(i as u32);
-        }
-    }
-    None
+    };
+    (0..c.rows as u32).find(|n| same_row(w, d, v, c, row, *n))
 }
 
 // `add` of an unnamed type: an equal row, or the next one.

@@ -5,54 +5,53 @@ ghost use Rattle.std.specs.Prelude.{◌≡◌};
 ghost use Rattle.definition.specs.Kind.{is_name, is_word};
 ghost use Rattle.definition.specs.Specifier.{is_storage_word, is_qualifier_word, is_ignored_word, is_type_word};
 ghost use Rattle.definition.specs.Specifiers.{is_tag_word};
+ghost use Rattle.encoding.specs.Kinds.{kind_number};
 
-use encoding::token_kinds::{
-    ATOMIC_WORD, BOOL_NAME, COMPLEX_WORD, CONST_WORD, ENUM_WORD, EXTENSION_WORD, IDENTIFIER,
-    INLINE_WORD, REGISTER_WORD, RESTRICT_WORD, SIZEOF_WORD, STRUCT_WORD, TYPEDEF_WORD, VOID_WORD,
-};
+use encoding::token_kinds::TokenKind;
 
 // A word that is no keyword.
-pub fn is_name(kind: u32) -> bool
-    ensures { result ≡ is_name kind }
+pub fn is_name(kind: TokenKind) -> bool
+    ensures { result ≡ is_name (kind_number kind) }
 {
-    matches!(kind, IDENTIFIER..=BOOL_NAME)
+    TokenKind::Identifier <= kind && kind <= TokenKind::BoolName
 }
 
 // Any word.
-pub fn is_word(kind: u32) -> bool
-    ensures { result ≡ is_word kind }
+pub fn is_word(kind: TokenKind) -> bool
+    ensures { result ≡ is_word (kind_number kind) }
 {
-    matches!(kind, IDENTIFIER..=SIZEOF_WORD)
+    TokenKind::Identifier <= kind && kind <= TokenKind::SizeofWord
 }
 
-pub fn is_storage_word(kind: u32) -> bool
-    ensures { result ≡ is_storage_word kind }
+pub fn is_storage_word(kind: TokenKind) -> bool
+    ensures { result ≡ is_storage_word (kind_number kind) }
 {
-    matches!(kind, TYPEDEF_WORD..=REGISTER_WORD)
+    TokenKind::TypedefWord <= kind && kind <= TokenKind::RegisterWord
 }
 
-pub fn is_qualifier_word(kind: u32) -> bool
-    ensures { result ≡ is_qualifier_word kind }
+pub fn is_qualifier_word(kind: TokenKind) -> bool
+    ensures { result ≡ is_qualifier_word (kind_number kind) }
 {
-    matches!(kind, CONST_WORD..=RESTRICT_WORD)
+    TokenKind::ConstWord <= kind && kind <= TokenKind::RestrictWord
 }
 
 // `_Atomic`, `inline` and the like say nothing of the layout.
-pub fn is_ignored_word(kind: u32) -> bool
-    ensures { result ≡ is_ignored_word kind }
+pub fn is_ignored_word(kind: TokenKind) -> bool
+    ensures { result ≡ is_ignored_word (kind_number kind) }
 {
-    matches!(kind, ATOMIC_WORD | INLINE_WORD..=EXTENSION_WORD)
+    kind == TokenKind::AtomicWord
+        || TokenKind::InlineWord <= kind && kind <= TokenKind::ExtensionWord
 }
 
-pub fn is_type_word(kind: u32) -> bool
-    ensures { result ≡ is_type_word kind }
+pub fn is_type_word(kind: TokenKind) -> bool
+    ensures { result ≡ is_type_word (kind_number kind) }
 {
-    matches!(kind, VOID_WORD..=COMPLEX_WORD)
+    TokenKind::VoidWord <= kind && kind <= TokenKind::ComplexWord
 }
 
 // `struct`, `union` or `enum`.
-pub fn is_tag_word(kind: u32) -> bool
-    ensures { result ≡ is_tag_word kind }
+pub fn is_tag_word(kind: TokenKind) -> bool
+    ensures { result ≡ is_tag_word (kind_number kind) }
 {
-    matches!(kind, STRUCT_WORD..=ENUM_WORD)
+    TokenKind::StructWord <= kind && kind <= TokenKind::EnumWord
 }

@@ -2,13 +2,11 @@
 ghost use Rattle.std.specs.Prelude.{◌≡◌, true};
 ghost use Rattle.definition.specs.Limit.{max_text};
 ghost use Rattle.definition.specs.Specifier.{no_words, with_word, total, signs, signedness, is_type_word};
+ghost use Rattle.encoding.specs.Kinds.{kind_number};
 ghost use Rattle.words.specs.Meaning.{counts};
 ghost use Rattle.words.specs.AtMost.{AtMost};
 
-use encoding::token_kinds::{
-    BOOL_WORD, CHAR_WORD, DOUBLE_WORD, FLOAT_WORD, INT_WORD, LONG_WORD, SHORT_WORD, SIGNED_WORD,
-    UNSIGNED_WORD, VOID_WORD,
-};
+use encoding::token_kinds::TokenKind;
 
 #[derive(Clone, Copy, Default)]
 pub struct Words {
@@ -34,22 +32,22 @@ impl Words {
 
     // One more of a type word.
     #[tactic(auto, unfolding(definition::specs::Specifier::with_word, definition::specs::Specifier::total, definition::specs::Specifier::is_type_word))]
-    pub fn with_word(mut self, kind: u32) -> Words
+    pub fn with_word(mut self, kind: TokenKind) -> Words
         requires at_most { AtMost max_text (counts self) }
-        requires kind_value { is_type_word kind ≡ true }
-        ensures { counts result ≡ with_word kind (counts self) }
+        requires kind_value { is_type_word (kind_number kind) ≡ true }
+        ensures { counts result ≡ with_word (kind_number kind) (counts self) }
     {
         match kind {
-            VOID_WORD => self.void += 1,
-            CHAR_WORD => self.char += 1,
-            SHORT_WORD => self.short += 1,
-            INT_WORD => self.int += 1,
-            LONG_WORD => self.long += 1,
-            FLOAT_WORD => self.float += 1,
-            DOUBLE_WORD => self.double += 1,
-            SIGNED_WORD => self.signed += 1,
-            UNSIGNED_WORD => self.unsigned += 1,
-            BOOL_WORD => self.bool += 1,
+            TokenKind::VoidWord => self.void += 1,
+            TokenKind::CharWord => self.char += 1,
+            TokenKind::ShortWord => self.short += 1,
+            TokenKind::IntWord => self.int += 1,
+            TokenKind::LongWord => self.long += 1,
+            TokenKind::FloatWord => self.float += 1,
+            TokenKind::DoubleWord => self.double += 1,
+            TokenKind::SignedWord => self.signed += 1,
+            TokenKind::UnsignedWord => self.unsigned += 1,
+            TokenKind::BoolWord => self.bool += 1,
             _ => self.complex += 1,
         }
         self
@@ -59,7 +57,7 @@ impl Words {
     pub fn signs(self) -> u64
         ensures { result ≡ signs (counts self) }
     {
-        self.signed as u64 + self.unsigned as u64
+        u64::from(self.signed) + u64::from(self.unsigned)
     }
 
     // Signed unless `unsigned` is said.
@@ -74,16 +72,16 @@ impl Words {
     pub fn total(self) -> u64
         ensures { result ≡ total (counts self) }
     {
-        self.void as u64
-            + self.char as u64
-            + self.short as u64
-            + self.int as u64
-            + self.long as u64
-            + self.float as u64
-            + self.double as u64
-            + self.signed as u64
-            + self.unsigned as u64
-            + self.bool as u64
-            + self.complex as u64
+        u64::from(self.void)
+            + u64::from(self.char)
+            + u64::from(self.short)
+            + u64::from(self.int)
+            + u64::from(self.long)
+            + u64::from(self.float)
+            + u64::from(self.double)
+            + u64::from(self.signed)
+            + u64::from(self.unsigned)
+            + u64::from(self.bool)
+            + u64::from(self.complex)
     }
 }

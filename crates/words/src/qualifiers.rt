@@ -3,9 +3,10 @@ ghost use Rattle.std.specs.Prelude.{◌≡◌};
 ghost use Rattle.definition.specs.Row.{unqualified, qualifier_bits};
 ghost use Rattle.definition.specs.Types.{is_unqualified, merged};
 ghost use Rattle.definition.specs.Specifier.{with_qualifier};
+ghost use Rattle.encoding.specs.Kinds.{kind_number};
 ghost use Rattle.words.specs.Meaning.{qualifiers, qualifiers_in};
 
-use encoding::token_kinds::{CONST_WORD, RESTRICT_WORD, VOLATILE_WORD};
+use encoding::token_kinds::TokenKind;
 
 #[derive(Clone, Copy, Default, PartialEq, Eq)]
 pub struct Qualifiers {
@@ -22,12 +23,12 @@ impl Qualifiers {
     }
 
     #[tactic(auto, unfolding(definition::specs::Specifier::with_qualifier))]
-    pub fn with_qualifier(mut self, kind: u32) -> Qualifiers
-        ensures { qualifiers result ≡ with_qualifier kind (qualifiers self) }
+    pub fn with_qualifier(mut self, kind: TokenKind) -> Qualifiers
+        ensures { qualifiers result ≡ with_qualifier (kind_number kind) (qualifiers self) }
     {
-        self.is_const |= kind == CONST_WORD;
-        self.is_volatile |= kind == VOLATILE_WORD;
-        self.is_restrict |= kind == RESTRICT_WORD;
+        self.is_const |= kind == TokenKind::ConstWord;
+        self.is_volatile |= kind == TokenKind::VolatileWord;
+        self.is_restrict |= kind == TokenKind::RestrictWord;
         self
     }
 

@@ -3,12 +3,14 @@ ghost use Rattle.std.specs.Prelude.{◌≡◌, true};
 ghost use Rattle.definition.specs.Limit.{max_text};
 ghost use Rattle.definition.specs.Specifier.{no_specifiers, storing, qualifying, based_on, wording, names_type, is_type_word};
 ghost use Rattle.encoding.specs.Storage.{storage};
+ghost use Rattle.encoding.specs.Kinds.{kind_number};
 ghost use Rattle.words.specs.Meaning.{specifiers, qualifiers, counts};
 ghost use Rattle.words.specs.AtMost.{AtMost};
 
 use crate::counts::Words;
 use crate::qualifiers::Qualifiers;
 use encoding::storage::Storage;
+use encoding::token_kinds::TokenKind;
 
 // The base is the row of a struct, union, enum or type name.
 #[derive(Clone, Copy)]
@@ -59,10 +61,10 @@ impl Specifiers {
     }
 
     // One more of a type word.
-    pub fn wording(self, kind: u32) -> Specifiers
+    pub fn wording(self, kind: TokenKind) -> Specifiers
         requires at_most { AtMost max_text (counts self.words) }
-        requires kind_value { is_type_word kind ≡ true }
-        ensures { specifiers result ≡ wording (specifiers self) kind }
+        requires kind_value { is_type_word (kind_number kind) ≡ true }
+        ensures { specifiers result ≡ wording (specifiers self) (kind_number kind) }
     {
         Specifiers {
             words: self.words.with_word(kind),

@@ -1,20 +1,21 @@
 // Storage classes.
 ghost use Rattle.std.specs.Prelude.{◌≡◌};
 ghost use Rattle.definition.specs.Specifier.{storage_of};
+ghost use Rattle.encoding.specs.Kinds.{kind_number};
 ghost use Rattle.encoding.specs.Storage.{storage};
 
 use encoding::storage::Storage;
-use encoding::token_kinds::{EXTERN_WORD, STATIC_WORD, TYPEDEF_WORD};
+use encoding::token_kinds::TokenKind;
 
 // The storage that a keyword says; `register` is automatic.
 #[tactic(auto, unfolding(definition::specs::Specifier::storage_of))]
-pub fn storage_of(kind: u32) -> Storage
-    ensures { storage result ≡ storage_of kind }
+pub fn storage_of(kind: TokenKind) -> Storage
+    ensures { storage result ≡ storage_of (kind_number kind) }
 {
     match kind {
-        TYPEDEF_WORD => Storage::Typedef,
-        EXTERN_WORD => Storage::Extern,
-        STATIC_WORD => Storage::Static,
+        TokenKind::TypedefWord => Storage::Typedef,
+        TokenKind::ExternWord => Storage::Extern,
+        TokenKind::StaticWord => Storage::Static,
         _ => Storage::Auto,
     }
 }

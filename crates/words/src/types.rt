@@ -2,16 +2,13 @@
 ghost use Rattle.std.specs.Prelude.{◌≡◌, true, false};
 ghost use Rattle.definition.specs.Row.{Row, void, int, float, bool};
 ghost use Rattle.definition.specs.Specifier.{only_word, double_type, char_type, short_type, int_type, combine, builtin};
+ghost use Rattle.encoding.specs.Kinds.{kind_number};
 ghost use Rattle.model.specs.Meaning.{model};
 ghost use Rattle.words.specs.Meaning.{counts, numbers, known};
 
 use crate::counts::Words;
 use encoding::row_kinds::{BOOL_KIND, FLOAT_KIND, INT_KIND, VOID_KIND};
-use encoding::token_kinds::{
-    BOOL_NAME, CHAR8_NAME, CHAR16_NAME, CHAR32_NAME, INT8_NAME, INT16_NAME, INT32_NAME, INT64_NAME,
-    INTMAX_NAME, INTPTR_NAME, PTRDIFF_NAME, SIZE_NAME, SSIZE_NAME, UINT8_NAME, UINT16_NAME,
-    UINT32_NAME, UINT64_NAME, UINTMAX_NAME, UINTPTR_NAME, WCHAR_NAME,
-};
+use encoding::token_kinds::TokenKind;
 use model::Model;
 
 // The numbers of a row that words make; its other numbers are 0.
@@ -121,7 +118,7 @@ fn int_type(m: Model, words: Words) -> Option<BaseRow>
     ensures { result ≡ known (int_type (model m) (counts words)) }
 {
     let total = words.total();
-    let ints = words.int as u64 + words.signs() + words.long as u64;
+    let ints = u64::from(words.int) + words.signs() + u64::from(words.long);
     if ints != total || total == 0 {
         return None;
     }
@@ -172,21 +169,21 @@ fn unsigned(bytes: u64) -> BaseRow
 
 // The type of a name that every program assumes.
 #[tactic(auto, unfolding(crate::specs::Meaning::known, definition::specs::Specifier::builtin, definition::specs::Specifier::type_in))]
-pub fn builtin(m: Model, kind: u32) -> Option<BaseRow>
-    ensures { result ≡ known (builtin (model m) kind) }
+pub fn builtin(m: Model, kind: TokenKind) -> Option<BaseRow>
+    ensures { result ≡ known (builtin (model m) (kind_number kind)) }
 {
     let row = match kind {
-        INT8_NAME => signed(1),
-        INT16_NAME => signed(2),
-        INT32_NAME | WCHAR_NAME => signed(4),
-        INT64_NAME | INTMAX_NAME => signed(8),
-        INTPTR_NAME | SSIZE_NAME | PTRDIFF_NAME => signed(m.pointer),
-        UINT8_NAME | CHAR8_NAME => unsigned(1),
-        UINT16_NAME | CHAR16_NAME => unsigned(2),
-        UINT32_NAME | CHAR32_NAME => unsigned(4),
-        UINT64_NAME | UINTMAX_NAME => unsigned(8),
-        UINTPTR_NAME | SIZE_NAME => unsigned(m.pointer),
-        BOOL_NAME => BaseRow::bool(),
+        TokenKind::Int8Name => signed(1),
+        TokenKind::Int16Name => signed(2),
+        TokenKind::Int32Name | TokenKind::WcharName => signed(4),
+        TokenKind::Int64Name | TokenKind::IntmaxName => signed(8),
+        TokenKind::IntptrName | TokenKind::SsizeName | TokenKind::PtrdiffName => signed(m.pointer),
+        TokenKind::Uint8Name | TokenKind::Char8Name => unsigned(1),
+        TokenKind::Uint16Name | TokenKind::Char16Name => unsigned(2),
+        TokenKind::Uint32Name | TokenKind::Char32Name => unsigned(4),
+        TokenKind::Uint64Name | TokenKind::UintmaxName => unsigned(8),
+        TokenKind::UintptrName | TokenKind::SizeName => unsigned(m.pointer),
+        TokenKind::BoolName => BaseRow::bool(),
         _ => return None,
     };
     Some(row)

@@ -1,40 +1,35 @@
 use native.Mathlib.Omega.{arith}
-use mathlib.Core.Path.{ap, ◌∙◌}
-use Rattle.definition.specs.Number.{digit_value}
-use Rattle.scan.proofs.Going.{tail_part}
-use Rattle.characters.proofs.Hex.{hex-starts, hex_next, hex_stop, hex_end, hex_none, hex_fine, hex_large}
+use mathlib.Core.Path.{◌≡◌, ap, sym, ◌∙◌}
+use lib.Seq.{length-take-le}
+use Rattle.std.proofs.lemmas.Result.{err_from_is_err_and}
+use Rattle.std.specs.Prelude.{None}
+use Rattle.std.specs.Result.{result_ok}
+use Rattle.definition_laws.proofs.LexerProgress.{before_le}
+use Rattle.encoding.specs.declared.refusals.Reason.TheVariants.{BadLiteral}
+use Rattle.characters.proofs.Hex.{hex_digits, hex_inside, hex_some, hex_none}
+use Rattle.characters.proofs.Refused.{refused_with}
 use Rattle.characters.proofs.hex_byte.Goals as goal
-use Rattle.characters.proofs.hex_byte.Goals.{else-loop-b-test, then-loop-b-test+then-d-ge16}
 
-pub loop-b-init : goal.loop-b-init
-loop-b-init c = record { next = omega arith; read = hex-starts _; small = omega arith }
+pub slice_bounds-hex_value-end : goal.slice_bounds-hex_value-end
+slice_bounds-hex_value-end c = sym (length-take-le _ _ (rw c.hex_length-n.ensures (before_le _ _)))
 
-pub returns-then-v-ge-HEX_END-clause-value : goal.returns-then-v-ge-HEX_END-clause-value
-returns-then-v-ge-HEX_END-clause-value c =
-    hex_large c.args.text.now _ _ _ (tail_part c.args.text.now c.args.at) _ _ _ c.loop-b.invariant.read c.loop-b.invariant.next
-    _ c.loop-b-test.true (c.digit_value-d.ensures ∙ ap digit_value c.from.ensures) c.if-d-ge16.false c.if-v-ge-HEX_END.true
+pub hex_value-requires : goal.hex_value-requires
+hex_value-requires c = rw c.hex_length-n.ensures (hex_digits _)
 
-pub loop-b-preserved : goal.loop-b-preserved
-loop-b-preserved c = record {
-  next = omega arith;
-  read = hex_next _ _ c.loop-b.invariant.read _ c.loop-b-test.true (c.from-in-loop-b.ensures ∙ (c.digit_value-d.ensures ∙ ap digit_value c.from.ensures)) (omega arith);
-  small = omega arith;
-}
+pub returns-in_err-value-clause-value : goal.returns-in_err-value-clause-value
+returns-in_err-value-clause-value c =
+    let n = c.ok_or.ensures.ok_part ∙ ap result_ok c.in_err-value.was in
+    let p = err_from_is_err_and c.from_residual.result c.from_residual.ensures.1 in
+    let f : record { reason = BadLiteral; at = c.args.start } ≡ c.in_err-value.field-0.0 = refused_with c.ok_or.ensures.value c.in_err-value.was n in
+    rw (p.1, p.2, ← f) (hex_none c.args.text.now c.args.start c.args.at c.from-rest.result.now c.from-rest.ensures c.hex_length-n.result c.hex_length-n.ensures c.hex_value.result c.hex_value.ensures n)
 
-pub returns-then-next-at-clause-value : goal.returns-then-next-at-clause-value
-returns-then-next-at-clause-value c =
-    hex_none c.args.text.now _ _ _ (tail_part c.args.text.now c.args.at) _ _ _ c.loop-b.invariant.read c.loop-b.invariant.next (
-    elim c.loop-b-test.branch [
-      | else-loop-b-test w ↦ hex_end _ _ c.loop-b.invariant.read w.loop-b-test.false
-      | then-loop-b-test+then-d-ge16 w ↦ hex_stop _ _ c.loop-b.invariant.read _ w.loop-b-test.true (w.digit_value-d.ensures ∙ ap digit_value w.from.ensures) w.if-d-ge16.true
-    ])
-    c.if-next-at.true
+pub overflow_add-result : goal.overflow_add-result
+overflow_add-result c = let k = hex_inside c.args.text.now c.args.start c.args.at c.from-rest.result.now c.from-rest.ensures c.hex_length-n.result c.hex_length-n.ensures c.requires in omega arith
 
 pub returns-clause-value : goal.returns-clause-value
-returns-clause-value c =
-    hex_fine c.args.text.now _ _ _ (tail_part c.args.text.now c.args.at) _ _ _ c.loop-b.invariant.read c.loop-b.invariant.next (
-    elim c.loop-b-test.branch [
-      | else-loop-b-test w ↦ hex_end _ _ c.loop-b.invariant.read w.loop-b-test.false
-      | then-loop-b-test+then-d-ge16 w ↦ hex_stop _ _ c.loop-b.invariant.read _ w.loop-b-test.true (w.digit_value-d.ensures ∙ ap digit_value w.from.ensures) w.if-d-ge16.true
-    ])
-    c.if-next-at.false c.loop-b.invariant.small
+returns-clause-value c = hex_some c.args.text.now c.args.start c.args.at c.from-rest.result.now c.from-rest.ensures c.hex_length-n.result c.hex_length-n.ensures c.hex_value.result c.hex_value.ensures _ (c.ok_or.ensures.ok_part ∙ ap result_ok c.in_ok-value.was)
+
+pub returns-clause-goes : goal.returns-clause-goes
+returns-clause-goes c =
+    let k = hex_inside c.args.text.now c.args.start c.args.at c.from-rest.result.now c.from-rest.ensures c.hex_length-n.result c.hex_length-n.ensures c.requires in
+    (omega arith, omega arith, k)

@@ -5,7 +5,12 @@ use mir.Syntax.{w64}
 use mir.Val.{SFits}
 use Rattle.arithmetic.proofs.Told.{back}
 use Rattle.table.proofs.Branch.{by, via, halt, yes!, nay!, eq+, eq-, lt+, lt-}
-use Rattle.constants.proofs.Steps.{here, shown, exit, done, ate, missed, there, prefix-there, operator-there, third, second, no_operand, an_operand, no_chain, a-chain, no_condition, a-condition, past}
+use Rattle.std.proofs.lemmas.List.{length-map}
+use Rattle.encoding.specs.Kinds.{kind_number}
+use Rattle.table.proofs.Steps.{inside}
+use Rattle.encoding.proofs.TokenKinds.{is_kind, no_kind, is_kind!, no_kind! }
+use Rattle.encoding.specs.declared.token_kinds.TokenKind.TheVariants.{Question, OpenParen}
+use Rattle.constants.proofs.Steps.{here, shown, exit, done, prefix-there, operator-there, third, second, no_operand, an_operand, no_chain, a-chain, no_condition, a-condition, past}
 use Rattle.constants.proofs.Rounds.{starts_as, turn}
 use Rattle.definition.specs.Arithmetic.{is_prefix}
 use Rattle.definition.specs.Range.{exact}
@@ -25,18 +30,18 @@ unfolding chain₁ operators_from
 binary-returns-then-p-low t c =
     let f : SFits w64 c.in_ok-t.left = search rules in
     (by (a-chain _ _ _ _ c.if-room-eq0.false) (via _ (sym (c.in_ok-t.ensures ∙ an_operand _ _ _ c.if-room-eq0.false))
-    (turn (rw (back f) at c.loop-t.invariant) (λ n h.
+    (turn (rw (back f) at c.loop-k.invariant) (λ n h.
     lt- _ _ _ _ (rw (c.precedence_of-p.ensures, c.kind-k.ensures.is) at c.if-p-low.true) here)))).ends
 
 pub binary-next-requires : goal.binary-next-requires
-binary-next-requires t c = omega (arith, c.well_formed, there c.kind-k.ensures (operator-there (rw c.precedence_of-p.ensures at c.if-p-low.false)))
+binary-next-requires t c = omega (arith, c.well_formed, inside c.args.s.now.kinds.now c.kind-k.ensures (operator-there (rw c.precedence_of-p.ensures at c.if-p-low.false)))
 
 pub binary-returns-in_err-u : goal.binary-returns-in_err-u
 unfolding chain₁ operators_from
 binary-returns-in_err-u t c =
     let f : SFits w64 c.in_ok-t.left = search rules in
     (by (a-chain _ _ _ _ c.if-room-eq0.false) (via _ (sym (c.in_ok-t.ensures ∙ an_operand _ _ _ c.if-room-eq0.false))
-    (turn (rw (back f) at c.loop-t.invariant) (λ n h.
+    (turn (rw (back f) at c.loop-k.invariant) (λ n h.
     lt+ _ _ _ _ (rw (c.precedence_of-p.ensures, c.kind-k.ensures.is) at c.if-p-low.false)
     (halt _ (sym (rw (c.next.ensures, c.precedence_of-p.ensures, c.kind-k.ensures.is) at c.in_err-u.ensures)) (exit _ _ c.from_residual-in_err-u.ensures.1)))))).ends
 
@@ -46,31 +51,31 @@ binary-returns-in_err-left t c =
     let f : SFits w64 c.in_ok-t.left = search rules in
     let g : SFits w64 c.in_ok-u.y = search rules in
     (by (a-chain _ _ _ _ c.if-room-eq0.false) (via _ (sym (c.in_ok-t.ensures ∙ an_operand _ _ _ c.if-room-eq0.false))
-    (turn (rw (back f) at c.loop-t.invariant) (λ n h.
+    (turn (rw (back f) at c.loop-k.invariant) (λ n h.
     lt+ _ _ _ _ (rw (c.precedence_of-p.ensures, c.kind-k.ensures.is) at c.if-p-low.false)
     (via _ (sym (rw (c.next.ensures, c.precedence_of-p.ensures, c.kind-k.ensures.is) at c.in_ok-u.ensures))
-    (halt _ (sym (c.in_err-left.ensures ∙ ap (λ g. g c.loop-t.t.at) (rw (back g, c.kind-k.ensures.is) at c.operate.ensures))) (exit _ _ c.from_residual-in_err-left.ensures.1))))))).ends
+    (halt _ (sym (c.in_err-left.ensures ∙ ap (λ g. g c.loop-k.t.at) (rw (back g, c.kind-k.ensures.is) at c.operate.ensures))) (exit _ _ c.from_residual-in_err-left.ensures.1))))))).ends
 
-pub binary-loop-t-smaller : goal.binary-loop-t-smaller
-binary-loop-t-smaller t c =
+pub binary-loop-k-smaller : goal.binary-loop-k-smaller
+binary-loop-k-smaller t c =
     let a = past _ _ _ _ _ c.in_ok-u.ensures in
-    let d = there c.kind-k.ensures (operator-there (rw c.precedence_of-p.ensures at c.if-p-low.false)) in
+    let d = inside c.args.s.now.kinds.now c.kind-k.ensures (operator-there (rw c.precedence_of-p.ensures at c.if-p-low.false)) in
     let f = c.next.ensures in
     omega arith
 
-pub binary-loop-t-preserved : goal.binary-loop-t-preserved
+pub binary-loop-k-preserved : goal.binary-loop-k-preserved
 unfolding operators_from
-binary-loop-t-preserved t c =
+binary-loop-k-preserved t c =
     let a = past _ _ _ _ _ c.in_ok-u.ensures in
-    let d = there c.kind-k.ensures (operator-there (rw c.precedence_of-p.ensures at c.if-p-low.false)) in
+    let d = inside c.args.s.now.kinds.now c.kind-k.ensures (operator-there (rw c.precedence_of-p.ensures at c.if-p-low.false)) in
     let e = c.next.ensures in
     let f : SFits w64 c.in_ok-left.left = search rules in
     let g : SFits w64 c.in_ok-u.y = search rules in
-    turn c.loop-t.invariant (λ n h.
+    turn c.loop-k.invariant (λ n h.
     lt+ _ _ _ _ (rw (c.precedence_of-p.ensures, c.kind-k.ensures.is) at c.if-p-low.false)
     (via _ (sym (rw (c.next.ensures, c.precedence_of-p.ensures, c.kind-k.ensures.is) at c.in_ok-u.ensures))
-    (via _ (sym (c.in_ok-left.ensures ∙ ap (λ g. g c.loop-t.t.at) (rw (back g, c.kind-k.ensures.is) at c.operate.ensures)))
-    (starts_as n (back f) refl (omega arith)))))
+    (via _ (sym (c.in_ok-left.ensures ∙ ap (λ g. g c.loop-k.t.at) (rw (back g, c.kind-k.ensures.is) at c.operate.ensures)))
+    (starts_as n (back f) refl (omega (arith, length-map c.args.s.now.kinds.now kind_number))))))
 
 pub conditional-returns-then-room-eq0 : goal.conditional-returns-then-room-eq0
 conditional-returns-then-room-eq0 t c = (by (no_condition _ _ _ c.if-room-eq0.true) here).ends
@@ -79,35 +84,32 @@ pub conditional-returns-in_err-t : goal.conditional-returns-in_err-t
 unfolding condition₁
 conditional-returns-in_err-t t c = (by (a-condition _ _ _ c.if-room-eq0.false) (halt _ (sym (c.in_err-t.ensures ∙ a-chain _ _ _ _ c.if-room-eq0.false)) (exit _ _ c.from_residual.ensures.1))).ends
 
-pub conditional-returns-then-kind-ne-QUESTION : goal.conditional-returns-then-kind-ne-QUESTION
+pub conditional-returns-then-ne : goal.conditional-returns-then-ne
 unfolding condition₁
-conditional-returns-then-kind-ne-QUESTION t c =
+conditional-returns-then-ne t c =
     let f : SFits w64 c.in_ok-t.x = search rules in
     (by (a-condition _ _ _ c.if-room-eq0.false) (via _ (sym (c.in_ok-t.ensures ∙ a-chain _ _ _ _ c.if-room-eq0.false))
-    (eq- _ _ _ _ (λ z. c.if-kind-ne-QUESTION.true (c.kind.ensures.is ∙ z)) (done (back f) refl)))).ends
+    (eq- _ _ _ _ (λ z. no_kind! c.kind.result Question c.ne.ensures c.if-ne.true (c.kind.ensures.is ∙ z)) (done (back f) refl)))).ends
 
 pub conditional-next-requires : goal.conditional-next-requires
-conditional-next-requires t c = omega (arith, c.well_formed, there c.kind.ensures (λ z. omega (arith, c.if-kind-ne-QUESTION.false)))
+conditional-next-requires t c = omega (arith, c.well_formed, inside c.args.s.now.kinds.now c.kind.ensures (omega (arith, is_kind! c.kind.result Question c.ne.ensures c.if-ne.false)))
 
-pub conditional-returns-in_err-u : goal.conditional-returns-in_err-u
+pub conditional-returns-in_err-colon : goal.conditional-returns-in_err-colon
 unfolding condition₁
-conditional-returns-in_err-u t c = (by (a-condition _ _ _ c.if-room-eq0.false) (via _ (sym (c.in_ok-t.ensures ∙ a-chain _ _ _ _ c.if-room-eq0.false))
-    (eq+ _ _ _ _ (sym c.kind.ensures.is ∙ c.if-kind-ne-QUESTION.false) (halt _ (sym (rw c.next.ensures at c.in_err-u.ensures)) (exit _ _ c.from_residual-in_err-u.ensures.1))))).ends
+conditional-returns-in_err-colon t c = (by (a-condition _ _ _ c.if-room-eq0.false) (via _ (sym (c.in_ok-t.ensures ∙ a-chain _ _ _ _ c.if-room-eq0.false))
+    (eq+ _ _ _ _ (sym c.kind.ensures.is ∙ is_kind! c.kind.result Question c.ne.ensures c.if-ne.false) (halt _ (sym (rw c.next.ensures at c.in_err-colon.ensures)) (exit _ _ c.from_residual-in_err-colon.ensures.1))))).ends
 
-pub conditional-returns-then-kind-ne-COLON : goal.conditional-returns-then-kind-ne-COLON
+pub conditional-returns-in_err-last : goal.conditional-returns-in_err-last
 unfolding condition₁
-conditional-returns-then-kind-ne-COLON t c = (by (a-condition _ _ _ c.if-room-eq0.false) (via _ (sym (c.in_ok-t.ensures ∙ a-chain _ _ _ _ c.if-room-eq0.false))
-    (eq+ _ _ _ _ (sym c.kind.ensures.is ∙ c.if-kind-ne-QUESTION.false) (via _ (sym (rw c.next.ensures at c.in_ok-u.ensures))
-    (missed _ _ _ _ c.kind-2.ensures c.if-kind-ne-COLON.true here))))).ends
-
-pub conditional-next-requires-2 : goal.conditional-next-requires-2
-conditional-next-requires-2 t c = omega (arith, c.well_formed, there c.kind-2.ensures (λ z. omega (arith, c.if-kind-ne-COLON.false)))
+conditional-returns-in_err-last t c = (by (a-condition _ _ _ c.if-room-eq0.false) (via _ (sym (c.in_ok-t.ensures ∙ a-chain _ _ _ _ c.if-room-eq0.false))
+    (eq+ _ _ _ _ (sym c.kind.ensures.is ∙ is_kind! c.kind.result Question c.ne.ensures c.if-ne.false) (via _ (sym (rw c.next.ensures at c.in_ok-colon.ensures))
+    (halt _ (sym (c.in_err-last.ensures c.args.s.now.numbers.now)) (exit _ _ c.from_residual-in_err-last.ensures.1)))))).ends
 
 pub conditional-returns-in_err-e : goal.conditional-returns-in_err-e
 unfolding condition₁
 conditional-returns-in_err-e t c = (by (a-condition _ _ _ c.if-room-eq0.false) (via _ (sym (c.in_ok-t.ensures ∙ a-chain _ _ _ _ c.if-room-eq0.false))
-    (eq+ _ _ _ _ (sym c.kind.ensures.is ∙ c.if-kind-ne-QUESTION.false) (via _ (sym (rw c.next.ensures at c.in_ok-u.ensures))
-    (ate _ _ _ _ c.kind-2.ensures c.if-kind-ne-COLON.false (halt _ (sym (rw c.next-2.ensures at c.in_err-e.ensures)) (exit _ _ c.from_residual-in_err-e.ensures.1))))))).ends
+    (eq+ _ _ _ _ (sym c.kind.ensures.is ∙ is_kind! c.kind.result Question c.ne.ensures c.if-ne.false) (via _ (sym (rw c.next.ensures at c.in_ok-colon.ensures))
+    (via _ (sym (c.in_ok-last.ensures c.args.s.now.numbers.now)) (halt _ (sym c.in_err-e.ensures) (exit _ _ c.from_residual-in_err-e.ensures.1))))))).ends
 
 pub conditional-returns-then-x-eq0 : goal.conditional-returns-then-x-eq0
 unfolding condition₁
@@ -115,18 +117,18 @@ conditional-returns-then-x-eq0 t c =
     let f : SFits w64 c.in_ok-t.x = search rules in
     let g : SFits w64 c.in_ok-e.z = search rules in
     (by (a-condition _ _ _ c.if-room-eq0.false) (via _ (sym (c.in_ok-t.ensures ∙ a-chain _ _ _ _ c.if-room-eq0.false))
-    (eq+ _ _ _ _ (sym c.kind.ensures.is ∙ c.if-kind-ne-QUESTION.false) (via _ (sym (rw c.next.ensures at c.in_ok-u.ensures))
-    (ate _ _ _ _ c.kind-2.ensures c.if-kind-ne-COLON.false (via _ (sym (rw c.next-2.ensures at c.in_ok-e.ensures))
+    (eq+ _ _ _ _ (sym c.kind.ensures.is ∙ is_kind! c.kind.result Question c.ne.ensures c.if-ne.false) (via _ (sym (rw c.next.ensures at c.in_ok-colon.ensures))
+    (via _ (sym (c.in_ok-last.ensures c.args.s.now.numbers.now)) (via _ (sym c.in_ok-e.ensures)
     (done (back g ∙ sym (third _ _ _ (is-zero f c.if-x-eq0.true))) refl))))))).ends
 
 pub conditional-returns : goal.conditional-returns
 unfolding condition₁
 conditional-returns t c =
     let f : SFits w64 c.in_ok-t.x = search rules in
-    let g : SFits w64 c.in_ok-u.y = search rules in
+    let g : SFits w64 c.in_ok-colon.y = search rules in
     (by (a-condition _ _ _ c.if-room-eq0.false) (via _ (sym (c.in_ok-t.ensures ∙ a-chain _ _ _ _ c.if-room-eq0.false))
-    (eq+ _ _ _ _ (sym c.kind.ensures.is ∙ c.if-kind-ne-QUESTION.false) (via _ (sym (rw c.next.ensures at c.in_ok-u.ensures))
-    (ate _ _ _ _ c.kind-2.ensures c.if-kind-ne-COLON.false (via _ (sym (rw c.next-2.ensures at c.in_ok-e.ensures))
+    (eq+ _ _ _ _ (sym c.kind.ensures.is ∙ is_kind! c.kind.result Question c.ne.ensures c.if-ne.false) (via _ (sym (rw c.next.ensures at c.in_ok-colon.ensures))
+    (via _ (sym (c.in_ok-last.ensures c.args.s.now.numbers.now)) (via _ (sym c.in_ok-e.ensures)
     (done (back g ∙ sym (second _ _ _ (not_zero f c.if-x-eq0.false))) refl))))))).ends
 
 pub unary-returns-then-room-eq0 : goal.unary-returns-then-room-eq0
@@ -134,7 +136,7 @@ unfolding operand₁
 unary-returns-then-room-eq0 t c = (by (no_operand _ _ _ c.if-room-eq0.true) here).ends
 
 pub unary-next-requires : goal.unary-next-requires
-unary-next-requires t c = omega (arith, c.well_formed, there c.kind-k.ensures (prefix-there (sym c.is_prefix.ensures ∙ c.if-is_prefix.true)))
+unary-next-requires t c = omega (arith, c.well_formed, inside c.args.s.now.kinds.now c.kind-k.ensures (prefix-there (sym c.is_prefix.ensures ∙ c.if-is_prefix.true)))
 
 pub unary-returns-in_err-t : goal.unary-returns-in_err-t
 unfolding operand₁
@@ -161,39 +163,36 @@ unary-returns-then-is_prefix t c =
     (via _ (sym (rw c.next.ensures at c.in_ok-t.ensures))
     (via _ (sym (c.in_ok-value.ensures ∙ ap (λ g. g c.args.c.at) (rw (back f, c.kind-k.ensures.is) at c.prefix.ensures))) (done (back g) refl))))).ends
 
-pub unary-next-requires-then-k-eq-OPEN_PAREN : goal.unary-next-requires-then-k-eq-OPEN_PAREN
-unary-next-requires-then-k-eq-OPEN_PAREN t c = omega (arith, c.well_formed, there c.kind-k.ensures (λ z. omega (arith, c.if-k-eq-OPEN_PAREN.true)))
+pub unary-next-requires-then-eq : goal.unary-next-requires-then-eq
+unary-next-requires-then-eq t c = omega (arith, c.well_formed, inside c.args.s.now.kinds.now c.kind-k.ensures (omega (arith, is_kind c.kind-k.result OpenParen c.eq.ensures c.if-eq.true)))
 
 pub unary-returns-in_err-close : goal.unary-returns-in_err-close
 unfolding operand₁
 unary-returns-in_err-close t c = (by (an_operand _ _ _ c.if-room-eq0.false)
     (nay! _ _ _ (ap is_prefix (sym c.kind-k.ensures.is) ∙ sym c.is_prefix.ensures ∙ c.if-is_prefix.false)
-    (eq+ _ _ _ _ (sym c.kind-k.ensures.is ∙ c.if-k-eq-OPEN_PAREN.true)
-    (halt _ (sym (rw c.next-then-k-eq-OPEN_PAREN.ensures at c.in_err-close.ensures)) (exit _ _ c.from_residual-in_err-close.ensures.1))))).ends
+    (eq+ _ _ _ _ (sym c.kind-k.ensures.is ∙ is_kind c.kind-k.result OpenParen c.eq.ensures c.if-eq.true)
+    (halt _ (sym (rw c.next-then-eq.ensures at c.in_err-close.ensures)) (exit _ _ c.from_residual-in_err-close.ensures.1))))).ends
 
-pub unary-returns-then-kind-ne-CLOSE_PAREN : goal.unary-returns-then-kind-ne-CLOSE_PAREN
+pub unary-returns-in_err-e : goal.unary-returns-in_err-e
 unfolding operand₁
-unary-returns-then-kind-ne-CLOSE_PAREN t c = (by (an_operand _ _ _ c.if-room-eq0.false)
+unary-returns-in_err-e t c = (by (an_operand _ _ _ c.if-room-eq0.false)
     (nay! _ _ _ (ap is_prefix (sym c.kind-k.ensures.is) ∙ sym c.is_prefix.ensures ∙ c.if-is_prefix.false)
-    (eq+ _ _ _ _ (sym c.kind-k.ensures.is ∙ c.if-k-eq-OPEN_PAREN.true)
-    (via _ (sym (rw c.next-then-k-eq-OPEN_PAREN.ensures at c.in_ok-close.ensures))
-    (missed _ _ _ _ c.kind.ensures c.if-kind-ne-CLOSE_PAREN.true here))))).ends
+    (eq+ _ _ _ _ (sym c.kind-k.ensures.is ∙ is_kind c.kind-k.result OpenParen c.eq.ensures c.if-eq.true)
+    (via _ (sym (rw c.next-then-eq.ensures at c.in_ok-close.ensures))
+    (halt _ (sym (c.in_err-e.ensures c.args.s.now.numbers.now)) (exit _ _ c.from_residual-in_err-e.ensures.1)))))).ends
 
-pub unary-next-requires-then-k-eq-OPEN_PAREN-2 : goal.unary-next-requires-then-k-eq-OPEN_PAREN-2
-unary-next-requires-then-k-eq-OPEN_PAREN-2 t c = omega (arith, c.well_formed, there c.kind.ensures (λ z. omega (arith, c.if-kind-ne-CLOSE_PAREN.false)))
-
-pub unary-returns-then-k-eq-OPEN_PAREN : goal.unary-returns-then-k-eq-OPEN_PAREN
+pub unary-returns-then-eq : goal.unary-returns-then-eq
 unfolding operand₁
-unary-returns-then-k-eq-OPEN_PAREN t c =
+unary-returns-then-eq t c =
     let f : SFits w64 c.in_ok-close.x = search rules in
     (by (an_operand _ _ _ c.if-room-eq0.false)
     (nay! _ _ _ (ap is_prefix (sym c.kind-k.ensures.is) ∙ sym c.is_prefix.ensures ∙ c.if-is_prefix.false)
-    (eq+ _ _ _ _ (sym c.kind-k.ensures.is ∙ c.if-k-eq-OPEN_PAREN.true)
-    (via _ (sym (rw c.next-then-k-eq-OPEN_PAREN.ensures at c.in_ok-close.ensures))
-    (ate _ _ _ _ c.kind.ensures c.if-kind-ne-CLOSE_PAREN.false (done (back f) c.next-then-k-eq-OPEN_PAREN-2.ensures)))))).ends
+    (eq+ _ _ _ _ (sym c.kind-k.ensures.is ∙ is_kind c.kind-k.result OpenParen c.eq.ensures c.if-eq.true)
+    (via _ (sym (rw c.next-then-eq.ensures at c.in_ok-close.ensures))
+    (via _ (sym (c.in_ok-e.ensures c.args.s.now.numbers.now)) (done (back f) refl)))))).ends
 
 pub unary-returns : goal.unary-returns
 unfolding operand₁
 unary-returns t c = shown _ _ (by (an_operand _ _ _ c.if-room-eq0.false)
     (nay! _ _ _ (ap is_prefix (sym c.kind-k.ensures.is) ∙ sym c.is_prefix.ensures ∙ c.if-is_prefix.false)
-    (eq- _ _ _ _ (λ z. c.if-k-eq-OPEN_PAREN.false (c.kind-k.ensures.is ∙ z)) (record { ends = c.primary_value.ensures.is _ }))))
+    (eq- _ _ _ _ (λ z. no_kind c.kind-k.result OpenParen c.eq.ensures c.if-eq.false (c.kind-k.ensures.is ∙ z)) (record { ends = c.primary_value.ensures.is _ }))))

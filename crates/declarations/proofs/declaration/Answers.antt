@@ -1,5 +1,5 @@
 use mathlib.Core.Path.{refl}
-use Rattle.constants.specs.Reading.{tokens}
+use Rattle.parser.specs.Parsing.{tokens_of, model_of}
 use Rattle.table.specs.Reply.{reply_alone}
 use Rattle.table.proofs.Branch.{by}
 use Rattle.table.proofs.Shown.{next, exit, held_next}
@@ -11,8 +11,8 @@ use Rattle.declarations.proofs.Made.{declaration-made}
 use Rattle.declarations.proofs.declaration.Goals as goal
 
 pub returns : goal.returns
-returns c = let a = held_next c.in_ok-e.ensures c.requires.held in
-    let far = enough (tokens c.args.kinds.now c.args.numbers.now) (on c.in_ok-e.ensures c.requires.held refl (specifiers-on _ _ _ (levels-on _ _ _))) (stays c.in_ok-f.ensures a refl (λ s. base_type-stays s _ _ _)) in
+returns c = let a = held_next c.in_ok-e.ensures c.requires in
+    let far = enough (tokens_of c.args.parser.now) (on c.in_ok-e.ensures c.requires refl (specifiers-on _ _ _ (levels-on _ _ _))) (stays c.in_ok-f.ensures a refl (λ s. base_type-stays s _ _ _)) in
     record { run = λ t h. by (declaration-made _ _ _) (next _ (c.in_ok-e.ensures.run t h) (λ t₁ h₁. next _ (c.in_ok-f.ensures.run t₁ h₁) (λ t₂ h₂. (c.after_base.ensures.rounds _ far).run t₂ h₂))) }
 
 pub returns-in_err-f : goal.returns-in_err-f

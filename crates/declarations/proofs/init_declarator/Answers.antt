@@ -9,7 +9,7 @@ pub returns-then-t-eq-NO_NAME : goal.returns-then-t-eq-NO_NAME
 returns-then-t-eq-NO_NAME c = record { run = λ t h. by (declarator-made _ _ _ _ _) (next _ (c.in_ok-e.ensures.run t h) (λ t₁ h₁. eq+ _ _ _ _ c.if-t-eq-NO_NAME.true (no! h₁ refl))) }
 
 pub add_declaration-requires : goal.add_declaration-requires
-add_declaration-requires c = held_at c.moved-f.ensures (held_next c.in_ok-e.ensures c.requires.held)
+add_declaration-requires c = held_at c.moved-f.ensures (held_next c.in_ok-e.ensures c.requires)
 
 pub returns : goal.returns
 returns c = record {

@@ -1,4 +1,3 @@
-use borrow.Author.Rules.{rules}
 use Rattle.entry_points.proofs.Walked.{walkable}
 use Rattle.entry_points.proofs.outcome.Goals as goal
 

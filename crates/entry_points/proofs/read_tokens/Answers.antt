@@ -1,4 +1,3 @@
-use borrow.Author.Rules.{rules}
 use mathlib.Core.Path.{refl}
 use Rattle.table.proofs.Shown.{long}
 use Rattle.entry_points.proofs.Parsing.{kept-words, read_done, read-refused}

@@ -1,4 +1,3 @@
-use borrow.Author.Rules.{rules}
 use Rattle.entry_points.proofs.Telling.{reject_is}
 use Rattle.entry_points.proofs.reject.Goals as goal
 

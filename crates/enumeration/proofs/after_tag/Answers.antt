@@ -1,20 +1,24 @@
-use mathlib.Core.Path.{refl}
+use native.Mathlib.Omega.{arith}
+use mathlib.Core.Path.{refl, ap}
 use Rattle.definition.specs.Enumeration.{after_tag}
+use Rattle.encoding.specs.Kinds.{kind_number}
+use Rattle.encoding.specs.declared.token_kinds.TokenKind.TheVariants.{Colon, OpenBrace}
 use Rattle.table.proofs.Shown.{no!, step-on, held_at}
 use Rattle.table.proofs.Steps.{is+, is-}
+use Rattle.enumeration.proofs.Enums.{another}
 use Rattle.enumeration.proofs.after_tag.Goals as goal
 
-pub returns-then-kind-eq-COLON : goal.returns-then-kind-eq-COLON
+pub returns-in-Colon : goal.returns-in-Colon
 unfolding after_tag
-returns-then-kind-eq-COLON c = record { run = λ t h. is+ _ _ c.kind_at-kind.ensures c.if-kind-eq-COLON.true (no! h refl) }
+returns-in-Colon c = record { run = λ t h. is+ _ _ c.kind.ensures (ap kind_number c.in-Colon.is) (no! h refl) }
 
 pub enum_body-requires : goal.enum_body-requires
-enum_body-requires c = record { held = held_at c.moved.ensures c.requires.held; names_fit = c.requires.names_fit }
+enum_body-requires c = held_at c.moved.ensures c.requires
 
-pub returns-then-kind-eq-OPEN_BRACE : goal.returns-then-kind-eq-OPEN_BRACE
+pub returns-in-OpenBrace : goal.returns-in-OpenBrace
 unfolding after_tag
-returns-then-kind-eq-OPEN_BRACE c = record { run = λ t h. is- _ _ c.kind_at-kind.ensures c.if-kind-eq-COLON.false (is+ _ _ c.kind_at-kind.ensures c.if-kind-eq-OPEN_BRACE.true (step-on c.moved.ensures c.enum_body.ensures h)) }
+returns-in-OpenBrace c = record { run = λ t h. is- _ _ c.kind.ensures (λ z. omega (arith, ap kind_number c.in-OpenBrace.is)) (is+ _ _ c.kind.ensures (ap kind_number c.in-OpenBrace.is) (step-on c.moved.ensures c.enum_body.ensures h)) }
 
-pub returns : goal.returns
+pub returns-in_default : goal.returns-in_default
 unfolding after_tag
-returns c = record { run = λ t h. is- _ _ c.kind_at-kind.ensures c.if-kind-eq-COLON.false (is- _ _ c.kind_at-kind.ensures c.if-kind-eq-OPEN_BRACE.false (c.bare_enum.ensures.run t h)) }
+returns-in_default c = record { run = λ t h. is- _ _ c.kind.ensures (another c.kind.result Colon c.in_default.not-Colon) (is- _ _ c.kind.ensures (another c.kind.result OpenBrace c.in_default.not-OpenBrace) (c.bare_enum.ensures.run t h)) }

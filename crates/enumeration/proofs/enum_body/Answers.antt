@@ -8,13 +8,13 @@ use Rattle.enumeration.proofs.Enums.{more-values, closes}
 use Rattle.enumeration.proofs.enum_body.Goals as goal
 
 pub overflow_sub-count : goal.overflow_sub-count
-overflow_sub-count c = omega (arith, more-values _ lp64 _ (c.in_ok-e.ensures.model lp64) c.requires.held refl)
+overflow_sub-count c = omega (arith, more-values _ lp64 _ (c.in_ok-e.ensures.model lp64) c.requires refl)
 
 pub overflow_cast-count : goal.overflow_cast-count
-overflow_cast-count c = omega (arith, (held_next (c.in_ok-e.ensures.model lp64) c.requires.held).room.values)
+overflow_cast-count c = omega (arith, (held_next (c.in_ok-e.ensures.model lp64) c.requires).room.values)
 
 pub close_enum-requires : goal.close_enum-requires
-close_enum-requires c = record { held = held_next (c.in_ok-e.ensures.model lp64) c.requires.held; first_bound = c.requires.held.room.values }
+close_enum-requires c = record { held = held_next (c.in_ok-e.ensures.model lp64) c.requires; first_bound = c.requires.room.values }
 
 pub returns-in_err-e : goal.returns-in_err-e
 unfolding enum_body

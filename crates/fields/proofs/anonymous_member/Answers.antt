@@ -10,4 +10,4 @@ returns-then-not-is_composite c = λ ts m next. record { run = λ t h. nay! _ _ 
 
 pub returns : goal.returns
 unfolding anonymous_member
-returns c = λ ts m next. record { run = λ t h. yes! _ _ _ (ap is_composite (sym (c.resolved_kind.ensures.of t h.words)) ∙ sym c.if-not-is_composite.ensures) (c.push_field.ensures.run t h) }
+returns c = λ ts m next. record { run = λ t h. yes! _ _ _ (ap is_composite (sym (c.resolved_kind.ensures.of t h.words)) ∙ sym c.if-not-is_composite.ensures) ((c.push_field.ensures tt).run t h) }

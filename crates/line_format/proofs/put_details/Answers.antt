@@ -1,7 +1,7 @@
 use Rattle.std.proofs.Common.{refl, arith}
 use Rattle.printing.proofs.Writing.{no_word, a_word, last_word, words_as}
 use Rattle.line_format.specs.Parts.{details_of}
-use Rattle.line_format.proofs.Rows.{no_details, name_alone}
+use Rattle.line_format.proofs.Rows.{set_word, no_details, name_alone}
 use Rattle.line_format.proofs.put_details.Goals as goal
 
 pub returns : goal.returns
@@ -17,11 +17,11 @@ returns-in-4 c = words_as (last_word c.next-in-4.ensures) (rw c.in-4.is refl)
 
 pub returns-in-5 : goal.returns-in-5
 unfolding details_of
-returns-in-5 c = words_as (a_word c.next-in-5.ensures (last_word (rw c.where_set.ensures at c.next-in-5-2.ensures))) (rw c.in-5.is refl)
+returns-in-5 c = words_as (a_word c.next-in-5.ensures (last_word (rw (c.then_some.ensures, set_word _ _) at c.next-in-5-2.ensures))) (rw c.in-5.is refl)
 
 pub returns-in-9 : goal.returns-in-9
 unfolding details_of
-returns-in-9 c = words_as (a_word (rw c.where_set-in-9.ensures at c.next-in-9.ensures) (last_word (rw c.dots.ensures at c.next-in-9-2.ensures))) (rw c.in-9.is refl)
+returns-in-9 c = words_as (a_word (rw (c.then_some-in-9.ensures, set_word _ _) at c.next-in-9.ensures) (last_word (rw c.dots.ensures at c.next-in-9-2.ensures))) (rw c.in-9.is refl)
 
 pub returns-in-10 : goal.returns-in-10
 unfolding details_of

@@ -8,6 +8,6 @@ returns c = record {
   kept = keeps_written c.put_member.ensures;
   of = λ t h.
       as_is c.put_member.ensures
-      (member-same _ (member_at t c.args.i) (c.member_offset.ensures.of t h.1) (c.member_width.ensures.of t h.0) (c.member_first_bit.ensures.of t h.1) (c.member_type.ensures.of t h.0)
+      (member-same _ (member_at t c.args.i) _ (c.member_offset.ensures.of t h.1) (c.member_width.ensures.of t h.0) (c.member_first_bit.ensures.of t h.1) (c.member_type.ensures.of t h.0)
       (c.member_name.ensures.of t h.0));
 }

@@ -1,4 +1,4 @@
-use Rattle.std.proofs.Common.{rules, sym, ap, ◌∙◌, arith}
+use Rattle.std.proofs.Common.{rules, sym, ◌∙◌, arith}
 use Rattle.definition.specs.Listing.{member_line, value_line, param_line}
 use Rattle.definition.specs.Table.{row_at}
 use Rattle.table.specs.Held.{member_at, value_at, parameter_at, no_member, no_value, no_parameter}

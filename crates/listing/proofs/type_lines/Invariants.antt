@@ -5,5 +5,5 @@ use Rattle.table.specs.Held.{Stands}
 use Rattle.listing.proofs.Under.{GoingAs}
 use Rattle.listing.proofs.type_lines.Given as goal
 
-abbrev pub invariant-loop-i : goal.invariant-loop-i
-invariant-loop-i l = GoingAs (λ t. Stands t l.c l.w l.d l.v) (λ t. type_lines l.text (model l.m) t 0 t.rows) l.initial.out (λ t. type_lines l.text (model l.m) t l.i (drop l.i t.rows)) l.out
+abbrev pub invariant-loop-row : goal.invariant-loop-row
+invariant-loop-row l = GoingAs (λ t. Stands t l.c l.w l.d l.v) (λ t. type_lines l.text (model l.m) t 0 t.rows) l.initial.out (λ t. type_lines l.text (model l.m) t l.row (drop l.row t.rows)) l.out

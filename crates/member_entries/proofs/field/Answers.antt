@@ -4,20 +4,20 @@ use Rattle.definition.specs.Model.{lp64}
 use Rattle.table.proofs.Branch.{eq+, nay! }
 use Rattle.table.proofs.Shown.{no!, next, exit, held_next}
 use Rattle.member_entries.specs.Pieces.{field}
-use Rattle.member_entries.proofs.Ends.{named, pushed}
+use Rattle.member_entries.proofs.Ends.{named}
 use Rattle.member_entries.proofs.field.Goals as goal
 
 pub returns-in_err-e : goal.returns-in_err-e
 unfolding field
-returns-in_err-e c = λ m. record { run = λ t h. exit reply_alone _ ((c.in_err-e.ensures.with m _).run t h) c.from_residual.ensures.1 refl }
+returns-in_err-e c = λ m. record { run = λ t h. exit reply_alone _ ((c.in_err-e.ensures.reads.with m _).run t h) c.from_residual.ensures.1 refl }
 
 pub returns-then-name-eq-NO_NAME : goal.returns-then-name-eq-NO_NAME
 unfolding field
-returns-then-name-eq-NO_NAME c = λ m. record { run = λ t h. next _ ((c.in_ok-e.ensures.with m _).run t h) (λ t₁ h₁. rw c.if-not-unnamed.true (eq+ _ _ _ _ c.if-name-eq-NO_NAME.true (no! h₁ refl))) }
+returns-then-name-eq-NO_NAME c = λ m. record { run = λ t h. next _ ((c.in_ok-e.ensures.reads.with m _).run t h) (λ t₁ h₁. rw c.if-not-unnamed.true (eq+ _ _ _ _ c.if-name-eq-NO_NAME.true (no! h₁ refl))) }
 
 pub push_field-requires : goal.push_field-requires
-push_field-requires c = (held_next (c.in_ok-e.ensures.with lp64 _) c.requires.0, c.requires.1)
+push_field-requires c = (held_next (c.in_ok-e.ensures.reads.with lp64 _) c.requires.0, c.requires.1)
 
 pub returns : goal.returns
 unfolding field
-returns c = λ m. record { run = λ t h. next _ ((c.in_ok-e.ensures.with m _).run t h) (λ t₁ h₁. nay! _ _ _ (named c.else-not-unnamed.either) ((pushed _ _ _ c.in_ok-e.width _ c.push_field.ensures).run t₁ h₁)) }
+returns c = λ m. record { run = λ t h. next _ ((c.in_ok-e.ensures.reads.with m _).run t h) (λ t₁ h₁. nay! _ _ _ (named c.else-not-unnamed.either) ((c.push_field.ensures c.in_ok-e.ensures.fits).run t₁ h₁)) }

@@ -1,25 +1,39 @@
 use native.Mathlib.Omega.{arith}
-use mathlib.Core.Path.{sym, ◌∙◌}
-use Rattle.named_rows.proofs.Searches.{named_test, named-is, not_named, look-yes, look_no, look-end, look_skip, all_there}
+use mathlib.Core.Path.{sym, ap, ◌∙◌}
+use mathlib.Core.Bool.{true, false}
+use lib.ListN.{length}
+use Rattle.std.specs.Prelude.{Some, None}
+use Rattle.std.proofs.Common.{rules}
+use Rattle.std.proofs.lemmas.Iterator.{first_from_Range}
+use Rattle.definition.specs.Table.{row_at}
+use Rattle.lemmas.specs.Options.{option}
+use Rattle.named_rows.specs.Finds.{Says}
+use Rattle.named_rows.proofs.Searches.{named_test, named-none, named-some, all_there}
 use Rattle.named_rows.proofs.row_named.Goals as goal
 
 pub returns-then-w-ne-WORDS : goal.returns-then-w-ne-WORDS
 returns-then-w-ne-WORDS c = record { of = λ t h x k. absurd (all_there h c.if-w-ne-WORDS.true) }
 
-pub loop-i-init : goal.loop-i-init
-loop-i-init c = λ t h x e. named-is _ _ 0 t.rows ∙ look_skip (named_test _ _) t.rows _ (λ j p q. not_named _ _ j _ (c.first_named-i.ensures.none_before.of t h x j p q))
+pub returns-in_err-first : goal.returns-in_err-first
+returns-in_err-first c = record {
+  of = λ t h x k. ap option c.from_residual.ensures ∙ named-none c.args.kind c.args.name t.rows (length t.rows) (λ i p q. c.in_err-first.ensures.none_before.of t h x i p tt) (λ i p q. absurd (omega arith));
+}
 
-pub is_named-requires : goal.is_named-requires
-is_named-requires c = record { i_lt_max_rows = omega (arith, c.requires.rows); members_at_in_bounds = omega (arith, c.if-w-ne-WORDS.false) }
+pub returns-in_err-i : goal.returns-in_err-i
+returns-in_err-i c =
+    let f = first_from_Range _ _ _ None (λ i. Says (λ t. named_test c.args.kind c.args.name i (row_at t i)) c.args.w.now true) (λ i. Says (λ t. named_test c.args.kind c.args.name i (row_at t i)) c.args.w.now false) c.in_err-i.ensures.ran (λ x q k. search rules) (λ x q k. search rules) in
+    record {
+      of = λ t h x k. ap option c.from_residual-in_err-i.ensures ∙ named-none c.args.kind c.args.name t.rows c.in_ok-first.first (c.in_ok-first.ensures.none_before.of t h x) (λ i p q. sym ((f i p (omega (arith, k.rows))).of t h));
+    }
 
 pub overflow_cast-result : goal.overflow_cast-result
-overflow_cast-result c = omega (arith, c.requires.rows)
-
-pub returns-then-is_named : goal.returns-then-is_named
-returns-then-is_named c = record { of = λ t h x k. sym (c.loop-i.invariant t h x k.rows ∙ look-yes (named_test _ _) t.rows _ (omega (arith, k.rows)) (sym (c.is_named.ensures.of t h) ∙ c.if-is_named.true)) }
-
-pub loop-i-preserved : goal.loop-i-preserved
-loop-i-preserved c = λ t h x e. c.loop-i.invariant t h x e ∙ look_no (named_test _ _) t.rows _ (omega (arith, e)) (sym (c.is_named.ensures.of t h) ∙ c.if-is_named.false)
+overflow_cast-result c =
+    let f = first_from_Range _ _ _ (Some c.in_ok-i.i) (λ i. Says (λ t. named_test c.args.kind c.args.name i (row_at t i)) c.args.w.now true) (λ i. Says (λ t. named_test c.args.kind c.args.name i (row_at t i)) c.args.w.now false) c.in_ok-i.ensures.ran (λ x q k. search rules) (λ x q k. search rules) in
+    omega (arith, f.1, c.requires.rows)
 
 pub returns : goal.returns
-returns c = record { of = λ t h x k. sym (c.loop-i.invariant t h x k.rows ∙ look-end (named_test _ _) t.rows _ (omega (arith, k.rows))) }
+returns c =
+    let f = first_from_Range _ _ _ (Some c.in_ok-i.i) (λ i. Says (λ t. named_test c.args.kind c.args.name i (row_at t i)) c.args.w.now true) (λ i. Says (λ t. named_test c.args.kind c.args.name i (row_at t i)) c.args.w.now false) c.in_ok-i.ensures.ran (λ x q k. search rules) (λ x q k. search rules) in
+    record {
+      of = λ t h x k. named-some c.args.kind c.args.name t.rows c.in_ok-first.first (c.in_ok-first.ensures.none_before.of t h x) c.in_ok-i.i (omega (arith, f.1, k.rows)) (sym (f.2.of t h)) (λ i p q. sym ((f.3 i p q).of t h));
+    }

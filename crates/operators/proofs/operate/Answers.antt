@@ -1,11 +1,20 @@
 use borrow.Author.Rules.{rules}
-use mathlib.Core.Path.{sym, ap, ◌∙◌}
-use Rattle.definition.specs.Range.{exact}
-use Rattle.definition.specs.Arithmetic.{operators, operator, left_side}
-use Rattle.arithmetic.proofs.Told.{made}
-use Rattle.operators.proofs.Tables.{no_operator}
+use Rattle.definition.specs.Arithmetic.{operators, operator, operator_in, greater, equal, bits_or, shift_right}
+use Rattle.arithmetic.proofs.Told.{tests, ored, moved}
 use Rattle.operators.proofs.operate.Goals as goal
 
-pub returns-in_default : goal.returns-in_default
-unfolding operator left_side operators
-returns-in_default c = made c.ranges.a ∙ sym (ap (λ o. exact (o c.args.a c.args.b)) (no_operator operators c.args.kind Unit (search rules)).0)
+pub returns-in-Greater : goal.returns-in-Greater
+unfolding operator operators operator_in greater
+returns-in-Greater c = rw c.in-Greater.is (search (rules, tests))
+
+pub returns-in-EqualEqual : goal.returns-in-EqualEqual
+unfolding operator operators operator_in equal
+returns-in-EqualEqual c = rw c.in-EqualEqual.is (search (rules, tests))
+
+pub returns-in-Bar : goal.returns-in-Bar
+unfolding operator operators operator_in bits_or
+returns-in-Bar c = rw c.in-Bar.is (ored c.ranges.a c.ranges.b)
+
+pub returns-in-ShiftRight : goal.returns-in-ShiftRight
+unfolding operator operators operator_in shift_right
+returns-in-ShiftRight c = rw c.in-ShiftRight.is (moved c.ranges.a c.ranges.b c.shift_count.ensures c.min.ensures)

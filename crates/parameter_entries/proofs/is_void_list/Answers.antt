@@ -4,6 +4,8 @@ use borrow.Author.Tests.{eq-eqb, ne_eqb}
 use lib.Dec.{eqb}
 use Rattle.definition.specs.Kind.{close_paren}
 use Rattle.definition.specs.Declarator.{is_void_list}
+use Rattle.encoding.specs.declared.token_kinds.TokenKind.TheVariants.{CloseParen}
+use Rattle.encoding.proofs.TokenKinds.{same_kind}
 use Rattle.parameter_entries.proofs.Entries.{and_on, and_off}
 use Rattle.parameter_entries.proofs.is_void_list.Goals as goal
 use Rattle.parameter_entries.proofs.is_void_list.Goals.{then-n-eq0, else-n-eq0, then-name-eq-NO_NAME, else-name-eq-NO_NAME}
@@ -11,7 +13,7 @@ use Rattle.parameter_entries.proofs.is_void_list.Goals.{then-n-eq0, else-n-eq0, 
 pub returns-then-ty-eq-VOID_ROW : goal.returns-then-ty-eq-VOID_ROW
 unfolding is_void_list
 returns-then-ty-eq-VOID_ROW c = let h = c.if-ty-eq-VOID_ROW.true in
-    record { of = λ ns t. sym (and_on _ (eq-eqb _ _ h.0) ∙ (and_on _ (eq-eqb _ _ h.1) ∙ (and_on _ (eq-eqb _ _ h.2) ∙ ap (λ z. eqb z close_paren) (sym c.kind_at.ensures.is)))) }
+    record { of = λ ns t. sym (and_on _ (eq-eqb _ _ h.0) ∙ (and_on _ (eq-eqb _ _ h.1) ∙ (and_on _ (eq-eqb _ _ h.2) ∙ sym (c.eq.ensures ∙ same_kind c.kind_at.result CloseParen ∙ ap (λ z. eqb z close_paren) c.kind_at.ensures.is)))) }
 
 pub returns-else-ty-eq-VOID_ROW : goal.returns-else-ty-eq-VOID_ROW
 unfolding is_void_list

@@ -1,21 +1,21 @@
-use native.Mathlib.Omega.{arith}
 use mathlib.Core.Path.{refl, sym, ap}
-use Prim.Native.Nat.{◌+◌}
 use Rattle.definition.specs.Answer.{got}
 use Rattle.definition.specs.Declarator.{parameters_end}
-use Rattle.table.specs.Held.{state, moved_to}
+use Rattle.table.specs.Held.{state}
+use Rattle.table.specs.Reply.{reply_by}
 use Rattle.table.proofs.Branch.{by}
-use Rattle.table.proofs.Shown.{got-at, no! }
-use Rattle.table.proofs.Steps.{there, ate, missed}
+use Rattle.table.proofs.Shown.{next, exit, got! }
+use Rattle.declarator_steps.specs.Pending.{step_of}
 use Rattle.parameter_entries.proofs.parameters_end.Goals as goal
 
-pub returns-then-kind_at-ne-CLOSE_PAREN : goal.returns-then-kind_at-ne-CLOSE_PAREN
+pub returns-in_err-e : goal.returns-in_err-e
 unfolding parameters_end
-returns-then-kind_at-ne-CLOSE_PAREN c = record { with = λ ns m next w d v. record { run = λ t h. missed _ _ _ c.kind_at.ensures c.if-kind_at-ne-CLOSE_PAREN.true (no! h refl) } }
-
-pub overflow_add-at : goal.overflow_add-at
-overflow_add-at c = omega (arith, there c.kind_at.ensures c.if-kind_at-ne-CLOSE_PAREN.false)
+returns-in_err-e c = record { with = λ ns m next w d v. record { run = λ t h. exit (reply_by step_of) _ ((c.in_err-e.ensures.with ns w d v).run t h) c.from_residual.ensures.1 refl } }
 
 pub returns : goal.returns
 unfolding parameters_end
-returns c = record { with = λ ns m next w d v. record { run = λ t h. ate _ _ _ c.kind_at.ensures c.if-kind_at-ne-CLOSE_PAREN.false (by (ap (λ z. got (z, state (moved_to c.args.c (c.args.c.at + 1)) t)) (sym c.function.ensures.means)) (got-at c.moved.ensures h)) } }
+returns c = record {
+  with = λ ns m levels w d v. record {
+    run = λ t h. next _ ((c.in_ok-e.ensures.with ns w d v).run t h) (λ t₁ h₁. got! h₁);
+  };
+}

@@ -18,15 +18,14 @@ use Rattle.table.proofs.Shown.{no!, held}
 use Rattle.parser.proofs.Declaring.{stops, no_declarator, stars_starting, stars-stop, stars-held, unstarred, direct-stop, stars_wait, direct-done}
 use native.Mathlib.Nat.{lt_of_lt_of_le}
 use mathlib.Core.Path.{refl, sym, ap, ◌∙◌}
-use Rattle.constants.specs.Reading.{tokens}
-use Rattle.definition.specs.Reader.{levels}
+use Rattle.encoding.specs.Kinds.{kind_numbers}
+use Rattle.parser.specs.Parsing.{tokens_of, model_of, levels_of}
 use Rattle.table.proofs.Rounds.{starts-at, turn}
 use Rattle.table.proofs.Shown.{got-at, no!, call, fail, held, held_at, held_on}
 use Rattle.table.proofs.Steps.{there, is+, is-, ate, missed}
 use Rattle.definition.specs.Composite.{member_declarators}
 use Rattle.definition.specs.Token.{left}
 use Rattle.definition_laws.proofs.Progress.{member_declarator-on, levels-on}
-use Rattle.model.specs.Meaning.{model}
 use Rattle.parser.specs.Pieces.{declarators_in}
 use Rattle.parser.proofs.Goes.{moves-on}
 use Rattle.parser.proofs.Lists.{Reading, begin, fewer, lone}
@@ -78,7 +77,6 @@ use mathlib.Core.Option.{none, some}
 use Rattle.table.proofs.Branch.{eq+, eq-}
 use Rattle.table.proofs.Shown.{call, refuse}
 use Rattle.parser.specs.Pieces.{suffix_step}
-use Rattle.declarator_steps.proofs.Views.{array-kept}
 use Rattle.parser.proofs.Declaring.{got_as}
 use Rattle.table.proofs.Shown.{held, held_at}
 use mathlib.Core.Logic.{⊎_elim, inl, inr}
@@ -96,19 +94,19 @@ use Rattle.parser.proofs.Composites.{first_fits}
 use Rattle.parser.proofs.+levels.Given as goal
 
 abbrev pub decreases-declarators : goal.decreases-declarators
-decreases-declarators l = 20 * l.room + 3
+decreases-declarators l = 20 * l.room + 4
 
 abbrev pub invariant-declarators-loop-e : goal.invariant-declarators-loop-e
-invariant-declarators-loop-e l = Reading (tokens l.kinds l.numbers) (declarators_in (tokens l.kinds l.numbers) (model l.m) (levels (tokens l.kinds l.numbers) (model l.m) l.room) l.first l.b) (declarators_in (tokens l.kinds l.numbers) (model l.m) (levels (tokens l.kinds l.numbers) (model l.m) l.room) l.first l.b) l.initial.here l.initial.w l.initial.d l.initial.v l.here l.w l.d l.v
+invariant-declarators-loop-e l = Reading (tokens_of l.parser) (declarators_in (tokens_of l.parser) (model_of l.parser) (levels_of l.parser l.room) l.first l.b) (declarators_in (tokens_of l.parser) (model_of l.parser) (levels_of l.parser l.room) l.first l.b) l.initial.here l.initial.w l.initial.d l.initial.v l.here l.w l.d l.v
 
 abbrev pub decreases-declarators-loop-e : goal.decreases-declarators-loop-e
-decreases-declarators-loop-e l = left (tokens l.kinds l.numbers) l.here.at
+decreases-declarators-loop-e l = left (tokens_of l.parser) l.here.at
 
 abbrev pub decreases-after_type : goal.decreases-after_type
-decreases-after_type l = 20 * l.room + 4
+decreases-after_type l = 20 * l.room + 5
 
 abbrev pub decreases-body : goal.decreases-body
-decreases-body l = 20 * l.room + 7
+decreases-body l = 20 * l.room + 8
 
 abbrev pub decreases-composite : goal.decreases-composite
 decreases-composite l = 20 * l.room + 0
@@ -117,70 +115,73 @@ abbrev pub decreases-declarator : goal.decreases-declarator
 decreases-declarator l = 20 * l.room + 0
 
 abbrev pub decreases-declared_type : goal.decreases-declared_type
-decreases-declared_type l = 20 * l.room + 1
+decreases-declared_type l = 20 * l.room + 2
+
+abbrev pub decreases-stepped_type : goal.decreases-stepped_type
+decreases-stepped_type l = 20 * l.room + 1
 
 abbrev pub decreases-direct : goal.decreases-direct
 decreases-direct l = 20 * l.room + 0
 
 abbrev pub decreases-list : goal.decreases-list
-decreases-list l = 20 * l.room + 5
+decreases-list l = 20 * l.room + 6
 
-abbrev pub invariant-list-loop-m : goal.invariant-list-loop-m
-invariant-list-loop-m l = Entering (tokens l.kinds l.numbers) (model l.m) l.room l.first l.initial.here l.initial.w l.initial.d l.initial.v l.n l.here l.w l.d l.v
+abbrev pub invariant-list-loop-here : goal.invariant-list-loop-here
+invariant-list-loop-here l = Entering (tokens_of l.parser) (model_of l.parser) l.room l.first l.initial.here l.initial.w l.initial.d l.initial.v l.n l.here l.w l.d l.v
 
-abbrev pub decreases-list-loop-m : goal.decreases-list-loop-m
-decreases-list-loop-m l = left (tokens l.kinds l.numbers) l.here.at
+abbrev pub decreases-list-loop-here : goal.decreases-list-loop-here
+decreases-list-loop-here l = left (tokens_of l.parser) l.here.at
 
 abbrev pub decreases-member : goal.decreases-member
-decreases-member l = 20 * l.room + 5
+decreases-member l = 20 * l.room + 6
 
 abbrev pub decreases-member_list : goal.decreases-member_list
-decreases-member_list l = 20 * l.room + 6
+decreases-member_list l = 20 * l.room + 7
 
-abbrev pub invariant-member_list-loop-m : goal.invariant-member_list-loop-m
-invariant-member_list-loop-m l = Reading (tokens l.kinds l.numbers) (members_in (tokens l.kinds l.numbers) (model l.m) l.room l.first) (members_in (tokens l.kinds l.numbers) (model l.m) l.room l.first) l.initial.here l.initial.w l.initial.d l.initial.v l.here l.w l.d l.v
+abbrev pub invariant-member_list-loop-kind : goal.invariant-member_list-loop-kind
+invariant-member_list-loop-kind l = Reading (tokens_of l.parser) (members_in (tokens_of l.parser) (model_of l.parser) l.room l.first) (members_in (tokens_of l.parser) (model_of l.parser) l.room l.first) l.initial.here l.initial.w l.initial.d l.initial.v l.here l.w l.d l.v
 
-abbrev pub decreases-member_list-loop-m : goal.decreases-member_list-loop-m
-decreases-member_list-loop-m l = left (tokens l.kinds l.numbers) l.here.at
+abbrev pub decreases-member_list-loop-kind : goal.decreases-member_list-loop-kind
+decreases-member_list-loop-kind l = left (tokens_of l.parser) l.here.at
 
 abbrev pub decreases-one_member : goal.decreases-one_member
-decreases-one_member l = 20 * l.room + 2
+decreases-one_member l = 20 * l.room + 3
 
 abbrev pub decreases-parameter : goal.decreases-parameter
-decreases-parameter l = 20 * l.room + 4
+decreases-parameter l = 20 * l.room + 5
 
 abbrev pub decreases-parameters : goal.decreases-parameters
-decreases-parameters l = 20 * l.room + 6
+decreases-parameters l = 20 * l.room + 7
 
 abbrev pub decreases-specifiers : goal.decreases-specifiers
-decreases-specifiers l = 20 * l.room + 3
+decreases-specifiers l = 20 * l.room + 4
 
-abbrev pub invariant-specifiers-loop-m : goal.invariant-specifiers-loop-m
-invariant-specifiers-loop-m l = Specifying (tokens l.kinds l.numbers) (model l.m) l.room l.initial.here l.initial.w l.initial.d l.initial.v (said l.p) l.here l.w l.d l.v
+abbrev pub invariant-specifiers-loop-kind : goal.invariant-specifiers-loop-kind
+invariant-specifiers-loop-kind l = Specifying (tokens_of l.parser) (model_of l.parser) l.room l.initial.here l.initial.w l.initial.d l.initial.v (said l.p) l.here l.w l.d l.v
 
-abbrev pub decreases-specifiers-loop-m : goal.decreases-specifiers-loop-m
-decreases-specifiers-loop-m l = left (tokens l.kinds l.numbers) l.here.at
+abbrev pub decreases-specifiers-loop-kind : goal.decreases-specifiers-loop-kind
+decreases-specifiers-loop-kind l = left (tokens_of l.parser) l.here.at
 
 abbrev pub decreases-suffix : goal.decreases-suffix
-decreases-suffix l = 20 * l.room + 7
+decreases-suffix l = 20 * l.room + 8
 
 abbrev pub decreases-suffixes : goal.decreases-suffixes
-decreases-suffixes l = 20 * l.room + 8
+decreases-suffixes l = 20 * l.room + 9
 
-abbrev pub invariant-suffixes-loop-m : goal.invariant-suffixes-loop-m
-invariant-suffixes-loop-m l = Suffixing l.kinds l.numbers (model l.m) l.room l.name l.initial.here l.initial.t l.initial.w l.initial.d l.initial.v l.here l.t l.w l.d l.v
+abbrev pub invariant-suffixes-loop-kind : goal.invariant-suffixes-loop-kind
+invariant-suffixes-loop-kind l = Suffixing (kind_numbers l.parser.tokens.kinds.now) l.parser.tokens.numbers.now (model_of l.parser) l.room l.name l.initial.here l.initial.t l.initial.w l.initial.d l.initial.v l.here l.t l.w l.d l.v
 
-abbrev pub decreases-suffixes-loop-m : goal.decreases-suffixes-loop-m
-decreases-suffixes-loop-m l = left (tokens l.kinds l.numbers) l.here.at
+abbrev pub decreases-suffixes-loop-kind : goal.decreases-suffixes-loop-kind
+decreases-suffixes-loop-kind l = left (tokens_of l.parser) l.here.at
 
 abbrev pub decreases-tag_type : goal.decreases-tag_type
 decreases-tag_type l = 20 * l.room + 1
 
 abbrev pub decreases-type_row : goal.decreases-type_row
-decreases-type_row l = 20 * l.room + 2
+decreases-type_row l = 20 * l.room + 3
 
 abbrev pub decreases-with_tag : goal.decreases-with_tag
-decreases-with_tag l = 20 * l.room + 8
+decreases-with_tag l = 20 * l.room + 9
 
 abbrev pub decreases-without_tag : goal.decreases-without_tag
-decreases-without_tag l = 20 * l.room + 8
+decreases-without_tag l = 20 * l.room + 9

@@ -15,11 +15,11 @@ overflow_add-at c = omega (arith, name-there _ _ (a-plain _ _ c.requires.at_valu
 pub apply_pointer-requires : goal.apply_pointer-requires
 apply_pointer-requires c = held_at c.moved.ensures c.requires.held
 
-pub name_at-name-requires : goal.name_at-name-requires
-name_at-name-requires c = c.requires.readable.names.fit _ (a-name _ _ (a-plain _ _ c.requires.at_value (c.qualifiers_here-at.ensures [] new_table)))
+pub name-name-requires : goal.name-name-requires
+name-name-requires c = (a-name _ _ (a-plain _ _ c.requires.at_value (c.qualifiers_here-at.ensures [] new_table)))
 
 pub returns : goal.returns
-returns c = record { of = λ m room h. pointer-done _ _ m room _ _ h c.requires.at_value c.qualifiers_here-at.ensures c.moved.ensures c.in_ok-e.ensures c.name_at-name.ensures }
+returns c = record { of = λ m room h. pointer-done _ _ m room _ _ h c.requires.at_value c.qualifiers_here-at.ensures c.moved.ensures c.in_ok-e.ensures c.name-name.ensures }
 
 pub returns-in_err-e : goal.returns-in_err-e
 returns-in_err-e c = record { of = λ m room h. pointer-refused _ _ m room _ _ h c.requires.at_value c.qualifiers_here-at.ensures c.moved.ensures _ _ c.in_err-e.ensures c.from_residual.ensures.1 }

@@ -4,11 +4,11 @@ use Rattle.definition.specs.Class.{is_blank}
 use Rattle.scan.proofs.Classes.{word-digit, word-letter, no_class}
 use Rattle.scan.proofs.class_of.Goals as goal
 
-pub returns-then-b-lt64 : goal.returns-then-b-lt64
-returns-then-b-lt64 c = sym (word-digit _ c.if-b-lt64.true (sym c.is_word_byte.ensures ∙ c.if-is_word_byte.true))
+pub returns-then-b-from : goal.returns-then-b-from
+returns-then-b-from c = sym (word-digit _ (rw c.from.ensures at c.if-b-from.true) (sym c.is_word_byte.ensures ∙ c.if-is_word_byte.true))
 
-pub returns-else-b-lt64 : goal.returns-else-b-lt64
-returns-else-b-lt64 c = sym (word-letter _ c.if-b-lt64.false (sym c.is_word_byte.ensures ∙ c.if-is_word_byte.true))
+pub returns-else-b-from : goal.returns-else-b-from
+returns-else-b-from c = sym (word-letter _ (rw c.from.ensures at c.if-b-from.false) (sym c.is_word_byte.ensures ∙ c.if-is_word_byte.true))
 
 pub returns-then-is_blank : goal.returns-then-is_blank
 unfolding is_blank

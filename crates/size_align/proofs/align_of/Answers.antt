@@ -1,8 +1,11 @@
-use Rattle.size_align.proofs.Aligned.{caps, told-absent, told-known}
+use Rattle.size_align.proofs.Reading.{all_words, all_wides, reads}
 use Rattle.size_align.proofs.align_of.Goals as goal
 
-pub returns-then-a-eq0 : goal.returns-then-a-eq0
-returns-then-a-eq0 c = record { of = λ t h g e. told-absent _ (c.align_within-a.ensures.of _ (caps _ c.max-most.ensures c.capped-pointer.ensures) t h g e) c.if-a-eq0.true }
+pub returns-in_default : goal.returns-in_default
+returns-in_default c = record { of = λ t h g e. absurd (all_words h c.in_default.ensures.1) }
 
-pub returns-else-a-eq0 : goal.returns-else-a-eq0
-returns-else-a-eq0 c = record { of = λ t h g e. told-known _ (c.align_within-a.ensures.of _ (caps _ c.max-most.ensures c.capped-pointer.ensures) t h g e) c.if-a-eq0.false }
+pub returns-in_default-try_from : goal.returns-in_default-try_from
+returns-in_default-try_from c = record { of = λ t h g e. absurd (all_wides g c.in_default-try_from.ensures.1) }
+
+pub returns : goal.returns
+returns c = record { of = λ t h g e. c.align_within.ensures.of _ t (reads _ h g c.in-Ok.ensures.1.same c.in-Ok-try_from.ensures.1.same c.max-most.ensures c.capped-pointer.ensures e) }

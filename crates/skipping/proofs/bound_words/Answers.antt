@@ -1,12 +1,11 @@
-use mathlib.Core.Path.{sym, ◌∙◌}
-use Rattle.skipping.proofs.Rounds.{bound-stop, bound-end, bound-on}
+use Rattle.std.proofs.Common.{rules, drop}
+use Rattle.std.proofs.lemmas.Iterator.{YieldsList-from_slice}
+use Rattle.std.proofs.lemmas.Iterator.Search.{YieldsList-from_take_while}
+use Rattle.std.proofs.lemmas.Iterator.Consumers.{count_from_yields_List}
+use Rattle.skipping.proofs.Rounds.{precedes, bounds-are}
 use Rattle.skipping.proofs.bound_words.Goals as goal
 
-pub loop-i-preserved : goal.loop-i-preserved
-loop-i-preserved c = λ ns t. c.loop-i.invariant ns t ∙ bound-on c.args.kinds.now ns t c.loop-i.i c.loop-i-test.true (sym c.if-precedes_bound.ensures)
-
-pub returns-else-precedes_bound : goal.returns-else-precedes_bound
-returns-else-precedes_bound c = λ ns t. c.loop-i.invariant ns t ∙ bound-stop c.args.kinds.now ns t c.loop-i.i _ (sym c.if-precedes_bound.ensures)
-
-pub returns-after-loop-i : goal.returns-after-loop-i
-returns-after-loop-i c = λ ns t. c.loop-i.invariant ns t ∙ bound-end c.args.kinds.now ns t c.loop-i.i _ c.loop-i-test.false
+pub returns : goal.returns
+returns c =
+    let road = YieldsList-from_take_while _ precedes (YieldsList-from_slice (drop c.args.at c.args.kinds.now) (search rules)) (search rules) (search rules) (λ x b q k. search rules) in
+    λ ns t. bounds-are c.args.kinds.now ns t c.args.at (count_from_yields_List _ c.count.result c.count.ensures.ran road)

@@ -1,42 +1,52 @@
 use native.Mathlib.Omega.{arith}
 use mathlib.Core.Path.{sym, ap, ◌∙◌}
-use Prim.Native.Nat.{suc, ◌+◌, ◌-◌}
-use lib.ListN.{length, get_or}
+use Prim.Native.Nat.{◌+◌}
+use lib.ListN.{get_or}
 use Rattle.std.proofs.lemmas.Int.{ints}
-use Rattle.definition.specs.Reader.{skip_initialiser}
-use Rattle.skipping.specs.Passing.{tokens, standing}
-use Rattle.skipping.proofs.Rounds.{none-stands, none_left, one-stands, initialiser-stop, initialiser-end, initialiser-on, turn-small}
+use Rattle.std.proofs.lemmas.List.{length-map}
+use Rattle.encoding.specs.Kinds.{kind_number, kind_numbers}
+use Rattle.encoding.specs.declared.token_kinds.TokenKind.TheVariants.{End, Equals}
+use Rattle.encoding.proofs.TokenKinds.{is_kind!, no_kind! }
+use Rattle.table.proofs.Steps.{inside}
+use Rattle.skipping.specs.Passing.{standing}
+use Rattle.skipping.proofs.Rounds.{all-from, kind-from, none-stands, one-stands, initialiser-stop, initialiser-end, initialiser-on, deeper-small}
 use Rattle.skipping.proofs.initialiser.Goals as goal
-use Rattle.skipping.proofs.initialiser.Goals.{then-kinds-at-via-then-kinds-at, then-kinds-at-via-else-kinds-at+then-kinds-at-ne-EQUALS}
 
-pub returns-then-kinds-at : goal.returns-then-kinds-at
-returns-then-kinds-at c = λ ns t. elim c.then-kinds-at.branch [
-  | then-kinds-at-via-then-kinds-at w ↦ none_left c.args.kinds.now ns t c.args.at w.if-kinds-at.true
-  | then-kinds-at-via-else-kinds-at+then-kinds-at-ne-EQUALS w ↦ none-stands c.args.kinds.now ns t c.args.at w.if-kinds-at-ne-EQUALS.true
-]
+pub returns-then-ne : goal.returns-then-ne
+returns-then-ne c = λ ns t. none-stands (kind_numbers c.args.kinds.now) ns t c.args.at c.kind_at.ensures.is (no_kind! c.kind_at.result Equals c.ne.ensures c.if-ne.true)
+
+pub overflow_add-begin : goal.overflow_add-begin
+overflow_add-begin c = omega (arith, inside c.args.kinds.now c.kind_at.ensures (omega (arith, is_kind! c.kind_at.result Equals c.ne.ensures c.if-ne.false)))
 
 pub loop-i-init : goal.loop-i-init
-loop-i-init c = record {
-  same = λ ns t. one-stands c.args.kinds.now ns t c.args.at c.if-kinds-at.false c.if-kinds-at-ne-EQUALS.false;
-  above = omega (arith, ints);
-  below = omega (arith, ints);
-  within = omega arith;
-}
+loop-i-init c =
+    let e = is_kind! c.kind_at.result Equals c.ne.ensures c.if-ne.false in
+    let h = inside c.args.kinds.now c.kind_at.ensures (omega (arith, e)) in
+    record {
+      same = λ ns t. one-stands (kind_numbers c.args.kinds.now) ns t c.args.at (omega (arith, h, length-map c.args.kinds.now kind_number)) c.kind_at.ensures.is e (omega arith);
+      above = omega (arith, ints);
+      below = omega (arith, ints);
+    }
 
 pub overflow_add-depth : goal.overflow_add-depth
-overflow_add-depth c = let b = turn-small (get_or c.args.kinds.now c.loop-i.i 0) in omega (arith, ints, c.turn-depth.ensures, b.0, b.1, c.well_formed.0.1)
+overflow_add-depth c = let b = deeper-small (kind_number (get_or c.from-rest.result.now c.loop-i.i End)) in omega (arith, ints, c.deeper-depth.ensures, b.0, b.1, c.well_formed.0.1)
 
 pub loop-i-preserved : goal.loop-i-preserved
-loop-i-preserved c = let b = turn-small (get_or c.args.kinds.now c.loop-i.i 0) in record {
-  same = λ ns t. c.loop-i.invariant.same ns t ∙ initialiser-on c.args.kinds.now ns t c.loop-i.i _ c.loop-i-test.true (sym c.if-not-ends_initialiser.ensures)
-      ∙ ap (λ d. skip_initialiser (tokens c.args.kinds.now ns) (suc (suc (length c.args.kinds.now - (c.loop-i.i + 1)))) d (standing (c.loop-i.i + 1) t)) (omega (arith, ints, c.turn-depth.ensures, b.0, b.1, c.well_formed.0.1));
-  above = omega (arith, ints, c.turn-depth.ensures, b.0, b.1, c.well_formed.0.1);
-  below = omega (arith, ints, c.turn-depth.ensures, b.0, b.1, c.well_formed.0.1);
-  within = omega arith;
-}
+loop-i-preserved c =
+    let b = deeper-small (kind_number (get_or c.from-rest.result.now c.loop-i.i End)) in
+    record {
+      same = λ ns t. c.loop-i.invariant.same ns t
+          ∙ initialiser-on (kind_numbers c.args.kinds.now) ns t (c.args.at + 1 + c.loop-i.i) _ (omega (arith, all-from c.args.kinds.now (c.args.at + 1) c.from-rest.ensures)) (kind-from c.args.kinds.now (c.args.at + 1) c.from-rest.ensures c.loop-i.i _ c.loop-i-test.true) (omega arith)
+          (omega (arith, ints, c.deeper-depth.ensures, b.0, b.1, c.well_formed.0.1)) (sym c.if-ends_initialiser.ensures);
+      above = omega (arith, ints, c.deeper-depth.ensures, b.0, b.1, c.well_formed.0.1);
+      below = omega (arith, ints, c.deeper-depth.ensures, b.0, b.1, c.well_formed.0.1);
+    }
 
-pub returns-else-not-ends_initialiser : goal.returns-else-not-ends_initialiser
-returns-else-not-ends_initialiser c = λ ns t. c.loop-i.invariant.same ns t ∙ initialiser-stop c.args.kinds.now ns t c.loop-i.i _ _ (sym c.if-not-ends_initialiser.ensures)
+pub returns-then-ends_initialiser : goal.returns-then-ends_initialiser
+returns-then-ends_initialiser c = λ ns t. c.loop-i.invariant.same ns t
+    ∙ initialiser-stop (kind_numbers c.args.kinds.now) ns t (c.args.at + 1 + c.loop-i.i) _ _ (kind-from c.args.kinds.now (c.args.at + 1) c.from-rest.ensures c.loop-i.i _ c.loop-i-test.true) (sym c.if-ends_initialiser.ensures)
 
-pub returns-after-loop-i : goal.returns-after-loop-i
-returns-after-loop-i c = λ ns t. c.loop-i.invariant.same ns t ∙ initialiser-end c.args.kinds.now ns t c.loop-i.i _ _ c.loop-i-test.false
+pub returns : goal.returns
+returns c = λ ns t. c.loop-i.invariant.same ns t
+    ∙ initialiser-end (kind_numbers c.args.kinds.now) ns t (c.args.at + 1 + c.loop-i.i) _ _ (omega (arith, all-from c.args.kinds.now (c.args.at + 1) c.from-rest.ensures))
+    ∙ ap (λ i. standing (c.args.at + 1 + i) t) (omega arith)

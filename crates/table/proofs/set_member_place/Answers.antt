@@ -1,13 +1,8 @@
-use native.Mathlib.Omega.{arith}
-use lib.ListN.{length-set}
 use Rattle.table.proofs.Leaves.{member-placed, member-past}
 use Rattle.table.proofs.set_member_place.Goals as goal
 
-pub bounds-d-b-then-i-c : goal.bounds-d-b-then-i-c
-bounds-d-b-then-i-c c = simp length-set (omega arith)
-
 pub returns-then-i-c : goal.returns-then-i-c
-returns-then-i-c c = record { with = λ w v. record { run = λ t h. member-placed h _ _ _ c.if-i-c.true } }
+returns-then-i-c c = record { with = λ w v. record { run = λ t h. rw c.put.ensures (member-placed h _ _ _ c.if-i-c.true) } }
 
 pub returns-else-i-c : goal.returns-else-i-c
 returns-else-i-c c = record { with = λ w v. record { run = λ t h. member-past h _ _ c.if-i-c.false } }

@@ -2,4 +2,4 @@ use mathlib.Core.Path.{◌∙◌}
 use Rattle.table.proofs.value_bound.Goals as goal
 
 pub returns : goal.returns
-returns c = c.kind_at.ensures.is ∙ rw c.name_slot.ensures.0
+returns c = c.at.ensures ∙ rw c.name_slot.ensures.0

@@ -18,11 +18,11 @@ pub returns-then-from-name : goal.returns-then-from-name
 unfolding found
 returns-then-from-name c =
     let e : c.unwrap_or.result ≡ get_or c.args.self.now.values.now (c.loop-k.k - 1) (pos 0) = grind (arith, common_steps, gets) in
-    let h = hit c.args.self.now.words.now c.args.self.now.values.now c.args.name c.loop-k.k c.loop-k-test.true (sym (c.from.ensures ∙ c.kind_at.ensures.is) ∙ c.if-from-name.true) in
+    let h = hit c.args.self.now.words.now c.args.self.now.values.now c.args.name c.loop-k.k c.loop-k-test.true (sym (c.from.ensures ∙ c.word_at.ensures.is) ∙ c.if-from-name.true) in
     rw (back (sfits_of c.unwrap_or.type_inv), e) (sym (c.loop-k.invariant ∙ h))
 
 pub loop-k-preserved : goal.loop-k-preserved
-loop-k-preserved c = c.loop-k.invariant ∙ miss c.args.self.now.words.now c.args.self.now.values.now c.args.name c.loop-k.k c.loop-k-test.true (λ e. c.if-from-name.false (c.from.ensures ∙ c.kind_at.ensures.is ∙ e))
+loop-k-preserved c = c.loop-k.invariant ∙ miss c.args.self.now.words.now c.args.self.now.values.now c.args.name c.loop-k.k c.loop-k-test.true (λ e. c.if-from-name.false (c.from.ensures ∙ c.word_at.ensures.is ∙ e))
 
 pub returns : goal.returns
 unfolding found last_value

@@ -1,10 +1,10 @@
 use Rattle.std.proofs.Common.{sym}
 use Rattle.std.proofs.lemmas.List.{take_more}
-use Rattle.printing.proofs.Writing.{nothing_there, in_place, then_there}
+use Rattle.printing.proofs.Writing.{nothing, as_is, then}
 use Rattle.printing.proofs.RefSliceU8Word.put.Goals as goal
 
 pub loop-b-init : goal.loop-b-init
-loop-b-init c = nothing_there
+loop-b-init c = nothing
 
 pub loop-b-preserved : goal.loop-b-preserved
-loop-b-preserved c = in_place (then_there c.loop-b.invariant c.put_byte-at.ensures) (sym (take_more _ _ 0 c.loop-b-test.true))
+loop-b-preserved c = as_is (then c.loop-b.invariant c.put_byte.ensures) (sym (take_more _ _ 0 c.loop-b-test.true))

@@ -1,10 +1,13 @@
 use Rattle.std.proofs.Common.{sym, ap, ◌∙◌, [], ◌∷◌}
-use Rattle.printing.proofs.Writing.{in_place, then_there}
+use Rattle.printing.proofs.Writing.{as_is, then}
 use Rattle.printing.proofs.Digits.{one-digit, more_digits}
 use Rattle.printing.proofs.U64Word.+put.Goals as goal
-
-pub returns-then-self-lt-TEN : goal.returns-then-self-lt-TEN
-returns-then-self-lt-TEN t c = in_place c.put_byte.ensures (ap (λ d. d ∷ []) c.digit.ensures ∙ sym (one-digit _ c.if-self-lt-TEN.true))
+use Rattle.printing.proofs.U64Word.+put.Goals.{then-self-ge-TEN, else-self-ge-TEN}
 
 pub returns : goal.returns
-returns t c = in_place (then_there c.put-at.ensures (in_place c.put_byte-2.ensures (ap (λ d. d ∷ []) c.digit-2.ensures))) (sym (more_digits _ c.if-self-lt-TEN.false))
+returns t c =
+    let d = ap (λ b. b ∷ []) c.digit.ensures in
+    elim c.if-self-ge-TEN.branch [
+      | then-self-ge-TEN w ↦ as_is (then w.put.ensures (as_is (rw w.out-is at c.put_byte.ensures) d)) (sym (more_digits _ w.if-self-ge-TEN.true))
+      | else-self-ge-TEN w ↦ as_is (rw w.out-is at c.put_byte.ensures) (d ∙ sym (one-digit _ w.if-self-ge-TEN.false))
+    ]
