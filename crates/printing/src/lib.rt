@@ -9,11 +9,11 @@ ghost use Rattle.printing.specs.Words.{or_dash_of};
 use arithmetic::magnitude;
 use encoding::names::NAME_UNIT;
 
-const SPACE: u8 = b' ';
+pub const SPACE: u8 = b' ';
 
-const LINE_FEED: u8 = b'\n';
+pub const LINE_FEED: u8 = b'\n';
 
-const DASH: u8 = b'-';
+pub const DASH: u8 = b'-';
 
 const TEN: u64 = 10;
 
