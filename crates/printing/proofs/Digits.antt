@@ -32,9 +32,9 @@ before_more (suc f) n ds es = by (ltb n 10) (before_more f (n / 10) (digit_byte 
     by true h = refl
     by false h = h
 
-pub one-digit : (n : ℕ) → n < 10 → decimal n ≡ digit_byte (n % 10) ∷ []
+pub one-digit : (n : ℕ) → n < 10 → decimal n ≡ digit_byte n ∷ []
 unfolding decimal
-one-digit n h = let e : n % 10 ≡ n = omega arith in rw e (under_ten n n [] h (omega arith))
+one-digit n h = under_ten n n [] h (omega arith)
 
 pub more_digits : (n : ℕ) → 10 ≤ n → decimal n ≡ decimal (n / 10) ++ digit_byte (n % 10) ∷ []
 unfolding decimal
