@@ -44,6 +44,16 @@ more_digits (suc k) h =
     ∙ (before_more k (suc k / 10) [] (digit_byte (suc k % 10) ∷ [])
     ∙ ap (λ l. l ++ digit_byte (suc k % 10) ∷ []) (digits_agree k (suc k / 10) (suc k / 10) [] (omega arith) (omega arith)))
 
+pub two_digits : (n : ℕ) → 10 ≤ n → n < 100 → decimal n ≡ digit_byte (n / 10 % 10) ∷ digit_byte (n % 10) ∷ []
+two_digits n h l =
+    let e : n / 10 % 10 ≡ n / 10 = omega arith in
+    rw e (more_digits n h ∙ ap (λ ds. ds ++ digit_byte (n % 10) ∷ []) (one-digit (n / 10) (omega arith)))
+
+pub two_more : (n : ℕ) → 100 ≤ n → decimal n ≡ decimal (n / 100) ++ (digit_byte (n / 10 % 10) ∷ []) ++ (digit_byte (n % 10) ∷ [])
+two_more n h =
+    let e : n / 10 / 10 ≡ n / 100 = omega arith in
+    more_digits n (omega arith) ∙ ap (λ ds. ds ++ digit_byte (n % 10) ∷ []) (more_digits (n / 10) (omega arith) ∙ ap (λ k. decimal k ++ digit_byte (n / 10 % 10) ∷ []) e)
+
 -- a number with its sign
 pub not_negative : (z : ℤ) → lt_z z (pos 0) ≡ false → decimal (nat_abs z) ≡ signed_decimal z
 unfolding signed_decimal

@@ -17,6 +17,8 @@ pub const DASH: u8 = b'-';
 
 const TEN: u64 = 10;
 
+const HUNDRED: u64 = 100;
+
 // One byte from a place on; answers the place after. What writes many bytes hands the place on so: in a writer it is loaded and stored at each.
 fn byte_put(buffer: &mut [u8], at: usize, b: u8) -> usize
     ensures { Wrote (b ∷ []) buffer.old at buffer.new result }
@@ -28,14 +30,18 @@ fn byte_put(buffer: &mut [u8], at: usize, b: u8) -> usize
     at.saturating_add(1)
 }
 
-// The digits before the last one, then the last one.
+// The digits before the last two, then these.
 fn digits_put(buffer: &mut [u8], at: usize, x: u64) -> usize
     ensures { Wrote (decimal x) buffer.old at buffer.new result }
 {
     if x < TEN {
         return byte_put(buffer, at, digit(x));
     }
-    let last = digits_put(buffer, at, x / TEN);
+    let mut last = at;
+    if HUNDRED <= x {
+        last = digits_put(buffer, last, x / HUNDRED);
+    }
+    last = byte_put(buffer, last, digit(x / TEN % TEN));
     byte_put(buffer, last, digit(x % TEN))
 }
 
@@ -121,6 +127,9 @@ impl Word for u64 {
     ghost bytes = { decimal };
 
     fn put(self, out: &mut Writer<'_>) {
+        if self < TEN {
+            return out.put_byte(digit(self));
+        }
         out.at = digits_put(out.buffer, out.at, self);
     }
 }
