@@ -30,6 +30,19 @@ fn byte_put(buffer: &mut [u8], at: usize, b: u8) -> usize
     at.saturating_add(1)
 }
 
+// Bytes one by one: where not all of them fit. Not inlined: at each word that is written it would only make the code longer.
+#[cold]
+#[inline(never)]
+fn bytes_put(buffer: &mut [u8], at: usize, s: &[u8]) -> usize
+    ensures { Wrote s.now buffer.old at buffer.new result }
+{
+    let mut place = at;
+    for b in s {
+        place = byte_put(buffer, place, *b);
+    }
+    place
+}
+
 // The digits before the last two, then these.
 fn digits_put(buffer: &mut [u8], at: usize, x: u64) -> usize
     ensures { Wrote (decimal x) buffer.old at buffer.new result }
@@ -100,10 +113,8 @@ impl Word for &[u8] {
             let end = at + length;
             out.buffer[at..end].copy_from_slice(self);
             out.at = end;
-            return;
-        }
-        for b in self {
-            out.put_byte(*b);
+        } else {
+            out.at = bytes_put(out.buffer, at, self);
         }
     }
 }
