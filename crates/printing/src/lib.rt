@@ -30,9 +30,7 @@ fn byte_put(buffer: &mut [u8], at: usize, b: u8) -> usize
     at.saturating_add(1)
 }
 
-// Bytes one by one: where not all of them fit. Not inlined: at each word that is written it would only make the code longer.
-#[cold]
-#[inline(never)]
+// Bytes one by one.
 fn bytes_put(buffer: &mut [u8], at: usize, s: &[u8]) -> usize
     ensures { Wrote s.now buffer.old at buffer.new result }
 {
@@ -104,18 +102,8 @@ impl Writer<'_> {
 impl Word for &[u8] {
     ghost bytes = { λ s. s.now };
 
-    // All at once where they fit.
     fn put(self, out: &mut Writer<'_>) {
-        let at = out.at;
-        let length = self.len();
-        let room = out.buffer.len();
-        if at <= room && length <= room - at {
-            let end = at + length;
-            out.buffer[at..end].copy_from_slice(self);
-            out.at = end;
-        } else {
-            out.at = bytes_put(out.buffer, at, self);
-        }
+        out.at = bytes_put(out.buffer, out.at, self);
     }
 }
 
