@@ -1,19 +1,18 @@
 #![tactic(auto)]
 // Character constants.
-ghost use Rattle.std.specs.Prelude.{◌≡◌, true, ltb, zero, ◌+◌, ◌^◌, ◌≤◌, ◌<◌, length, SomeIff, IfOk};
-ghost use Rattle.definition.specs.Scan.{before};
-ghost use Rattle.definition.specs.Number.{digit_value, are_digits, value_from};
-ghost use Rattle.definition.specs.Character.{ends_hex, escaped, hex_byte, escape, one_byte, character_at};
+ghost use Rattle.std.specs.Prelude.{◌≡◌, ◌+◌, ◌≤◌, ◌<◌, length, IfOk, IfSome};
+ghost use Rattle.definition.specs.Text.{byte_at};
+ghost use Rattle.definition.specs.Number.{digit_value};
+ghost use Rattle.definition.specs.Character.{escaped, hex_byte, escape, one_byte, character_at};
 ghost use Rattle.encoding.specs.Refusals.{answer_by};
-ghost use Rattle.literals.specs.Shown.{read};
+ghost use Rattle.literals.specs.Shown.{digit, read};
 ghost use Rattle.characters.specs.Reads.{Goes};
 
 use encoding::refusals::{Reason, Refusal};
 use literals::{add_digit, digit_value};
-use scan::from;
 
-// The least number that is too large for \x.
-const HEX_END: u128 = 1 << 127;
+// From here on one digit more makes the value of \x too large: 2^127 or more.
+const HEX_FULL: u128 = 1 << 123;
 
 // What a byte after a backslash stands for.
 #[tactic(auto, unfolding(definition::specs::Character::escaped))]
@@ -33,49 +32,39 @@ pub fn escaped(b: u8) -> u8
     }
 }
 
-// A hexadecimal digit.
-fn is_hex(b: u8) -> bool
-    ensures { result ≡ ltb (digit_value b) 16 }
+// The value of the hexadecimal digit that stands at an offset.
+#[tactic(auto, using(scan::proofs::Going::inside, crate::proofs::Hex::no_digit))]
+fn digit_at(text: &[u8], at: usize) -> Option<u32>
+    ensures value { digit result ≡ digit_value (byte_at text.now at) }
+    ensures base { IfSome result (λ d. d < 16) }
 {
-    digit_value(u32::from(b)).is_some()
-}
-
-// How many hexadecimal digits stand next.
-fn hex_length(rest: &[u8]) -> usize
-    ensures { result ≡ before ends_hex rest.now }
-{
-    rest.iter().position(|b| !is_hex(*b)).unwrap_or(rest.len())
-}
-
-// The value of hexadecimal digits; none without digits, or where it is too large.
-fn hex_value(digits: &[u8]) -> Option<u128>
-    requires { are_digits 16 digits.now ≡ true }
-    ensures { SomeIff result ((0 < length digits.now) × (value_from 16 zero digits.now < 2 ^ 127)) (value_from 16 zero digits.now) }
-{
-    if digits.is_empty() {
-        return None;
-    }
-    let mut v: u128 = 0;
-    for b in digits {
-        let d = digit_value(u32::from(*b))?;
-        v = v.checked_mul(16)?.checked_add(u128::from(d))?;
-    }
-    (v < HEX_END).then_some(v)
+    digit_value(u32::from(*text.get(at)?))
 }
 
 // The byte that \x stands for, with its digits from an offset on.
+#[tactic(auto, using(crate::proofs::Hex::hex))]
 pub fn hex_byte(text: &[u8], start: usize, at: usize) -> Result<(u8, usize), Refusal>
     requires { at ≤ length text.now }
     ensures value { answer_by read result ≡ hex_byte text.now start at }
     ensures goes { Goes at (length text.now) result }
 {
-    let rest = from(text, at);
-    let n = hex_length(rest);
-    let value = hex_value(&rest[..n]).ok_or(Refusal {
+    let refusal = Refusal {
         reason: Reason::BadLiteral,
         at: start,
-    })?;
-    Ok(((value % 256) as u8, at + n))
+    };
+    let mut v: u128 = 0;
+    let mut n = 0;
+    while let Some(d) = digit_at(text, at + n) {
+        if HEX_FULL <= v {
+            return Err(refusal);
+        }
+        v = v * 16 + u128::from(d);
+        n += 1;
+    }
+    if n == 0 {
+        return Err(refusal);
+    }
+    Ok(((v % 256) as u8, at + n))
 }
 
 // The byte that an escape stands for.

@@ -10,15 +10,15 @@ use model::Model;
 use words::qualifiers::Qualifiers;
 
 // Kinds of steps, as they are kept.
-const POINTER: u32 = 1;
+pub const POINTER: u32 = 1;
 
-const ARRAY: u32 = 2;
+pub const ARRAY: u32 = 2;
 
-const BOUNDED: u32 = 3;
+pub const BOUNDED: u32 = 3;
 
-const FUNCTION: u32 = 4;
+pub const FUNCTION: u32 = 4;
 
-const VARIADIC: u32 = 5;
+pub const VARIADIC: u32 = 5;
 
 // Where a function's parameters stand: the first of them in this unit, and their count below it.
 const FIRST_UNIT: u64 = 4294967296;

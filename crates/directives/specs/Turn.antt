@@ -6,6 +6,7 @@ use Rattle.definition.specs.Text.{Bytes, bytes, byte_at}
 use Rattle.definition.specs.Class.{is_blank}
 use Rattle.definition.specs.Scan.{before, starts_with}
 use Rattle.definition.specs.Directive.{past_blanks, says_something, ends_word, is_body, is_name_and_body, directive, is_macro}
+use Rattle.directives.specs.declared.Decided.{Decided}
 use Rattle.directives.specs.declared.State.{State}
 use Rattle.directives.specs.declared.State.TheVariants.{BeforeWord, InDefine, BeforeName, InName, InBody, Kept, Dropped}
 
@@ -29,6 +30,13 @@ pub record Reads (text : Bytes) (at : ℕ) (r : State × ℕ) : Type 0 where
   pub on : at < r.1
   pub inside : r.1 ≤ length text
 
--- the # line whose # stands at an offset is skipped, or refused
+-- what is decided of the # line whose # stands at an offset
+pub record Decides (text : Bytes) (at : ℕ) (d : Decided) : Type 0 where
+  pub keeps : d.keeps ≡ is_macro (directive text at).line
+  pub next : d.next ≡ (directive text at).next
+  pub on : at < d.next
+  pub inside : d.next ≤ length text
+
+-- that line is skipped, or refused
 abbrev pub skipped : Bytes → ℕ → Answer ℕ
 skipped text at = elim (is_macro (directive text at).line) [ true ↦ refused macro_line at | false ↦ got (directive text at).next ]

@@ -5,10 +5,17 @@ ghost use Rattle.definition.specs.Text.{Bytes};
 ghost use Rattle.definition.specs.Comment.{comment_end};
 ghost use Rattle.directives.specs.declared.State.TheVariants.{InDefine, InBody};
 ghost use Rattle.encoding.specs.Refusals.{answer};
-ghost use Rattle.directives.specs.Turn.{wanted, Reads, skipped};
+ghost use Rattle.directives.specs.Turn.{wanted, Reads, Decides, skipped};
 
 use encoding::refusals::{Reason, Refusal};
 use scan::{Class, begins, class_of, comment_end, is_blank, is_word_byte, line_end};
+
+// A # line: whether it is a macro that is kept, and where it ends.
+#[derive(Clone, Copy)]
+pub struct Decided {
+    pub keeps: bool,
+    pub next: usize,
+}
 
 // How far a # line was read that could be a macro.
 #[derive(Clone, Copy)]
@@ -113,18 +120,30 @@ fn read_line(text: &[u8], at: usize) -> (State, usize)
     (state, i)
 }
 
-// Where the # line ends whose # stands at an offset. A macro that would be kept is refused.
-pub fn directive(text: &[u8], at: usize) -> Result<usize, Refusal>
+// The # line whose # stands at an offset.
+pub fn directive(text: &[u8], at: usize) -> Decided
+    requires { at < length text.now }
+    ensures { Decides text.now at result }
+{
+    let (state, next) = read_line(text, at);
+    Decided {
+        keeps: is_kept(state),
+        next,
+    }
+}
+
+// Where that line ends. A macro that would be kept is refused.
+pub fn past_directive(text: &[u8], at: usize) -> Result<usize, Refusal>
     requires { at < length text.now }
     ensures value { answer result ≡ skipped text.now at }
     ensures goes { IfOk result (λ next. (at < next) × (next ≤ length text.now)) }
 {
-    let (state, next) = read_line(text, at);
-    if is_kept(state) {
+    let line = directive(text, at);
+    if line.keeps {
         return Err(Refusal {
             reason: Reason::MacroLine,
             at,
         });
     }
-    Ok(next)
+    Ok(line.next)
 }

@@ -53,14 +53,12 @@ fn sub_lines(
     ensures { WritesAs (λ t. Stands t c w.now d.now v.now) (λ t. sub_lines text.now t row (row_at t row)) out.old out.new }
 {
     let kind = row_kind(w, row);
-    let first = row_first(w, row);
-    let count = row_count(w, row);
     match kind {
         STRUCT_KIND | UNION_KIND => entry_lines(
             out,
             row,
-            first,
-            count,
+            row_first(w, row),
+            row_count(w, row),
             c.members,
             |i| member_row(w, i),
             |out, i| member_line(out, text, w, d, i),
@@ -68,8 +66,8 @@ fn sub_lines(
         ENUM_KIND => entry_lines(
             out,
             row,
-            first,
-            count,
+            row_first(w, row),
+            row_count(w, row),
             c.values,
             |i| value_row(w, i),
             |out, i| value_line(out, text, w, v, i),
@@ -77,8 +75,8 @@ fn sub_lines(
         FUNCTION_KIND => entry_lines(
             out,
             row,
-            first,
-            count,
+            row_first(w, row),
+            row_count(w, row),
             c.parameters,
             |i| parameter_row(w, i),
             |out, i| param_line(out, text, w, i),

@@ -6,7 +6,7 @@ ghost use Rattle.next_token.specs.Pieces.{Cuts, CutsOn, Goes, Starts, cut_attrib
 
 use attributes::attribute_at;
 use characters::character;
-use directives::directive;
+use directives::past_directive;
 use encoding::refusals::{Reason, Refusal};
 use encoding::token_kinds::TokenKind;
 use keywords::kind_of;
@@ -151,7 +151,7 @@ pub fn hash_line(text: &[u8], at: usize, line: bool) -> Result<Piece, Refusal>
     ensures value { CutsOn (cut_directive text.now) text.now at line result }
     ensures goes { IfOk result (Goes text.now at) }
 {
-    let next = directive(text, at)?;
+    let next = past_directive(text, at)?;
     Ok(Piece::Skip(next, line))
 }
 

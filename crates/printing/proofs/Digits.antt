@@ -32,9 +32,9 @@ before_more (suc f) n ds es = by (ltb n 10) (before_more f (n / 10) (digit_byte 
     by true h = refl
     by false h = h
 
-pub one-digit : (n : ℕ) → n < 10 → decimal n ≡ digit_byte (n % 10) ∷ []
+pub one-digit : (n : ℕ) → n < 10 → decimal n ≡ digit_byte n ∷ []
 unfolding decimal
-one-digit n h = let e : n % 10 ≡ n = omega arith in rw e (under_ten n n [] h (omega arith))
+one-digit n h = under_ten n n [] h (omega arith)
 
 pub more_digits : (n : ℕ) → 10 ≤ n → decimal n ≡ decimal (n / 10) ++ digit_byte (n % 10) ∷ []
 unfolding decimal
@@ -43,6 +43,16 @@ more_digits (suc k) h =
     over_ten k (suc k) [] h
     ∙ (before_more k (suc k / 10) [] (digit_byte (suc k % 10) ∷ [])
     ∙ ap (λ l. l ++ digit_byte (suc k % 10) ∷ []) (digits_agree k (suc k / 10) (suc k / 10) [] (omega arith) (omega arith)))
+
+pub two_digits : (n : ℕ) → 10 ≤ n → n < 100 → decimal n ≡ digit_byte (n / 10 % 10) ∷ digit_byte (n % 10) ∷ []
+two_digits n h l =
+    let e : n / 10 % 10 ≡ n / 10 = omega arith in
+    rw e (more_digits n h ∙ ap (λ ds. ds ++ digit_byte (n % 10) ∷ []) (one-digit (n / 10) (omega arith)))
+
+pub two_more : (n : ℕ) → 100 ≤ n → decimal n ≡ decimal (n / 100) ++ (digit_byte (n / 10 % 10) ∷ []) ++ (digit_byte (n % 10) ∷ [])
+two_more n h =
+    let e : n / 10 / 10 ≡ n / 100 = omega arith in
+    more_digits n (omega arith) ∙ ap (λ ds. ds ++ digit_byte (n % 10) ∷ []) (more_digits (n / 10) (omega arith) ∙ ap (λ k. decimal k ++ digit_byte (n / 10 % 10) ∷ []) e)
 
 -- a number with its sign
 pub not_negative : (z : ℤ) → lt_z z (pos 0) ≡ false → decimal (nat_abs z) ≡ signed_decimal z

@@ -9,13 +9,52 @@ ghost use Rattle.printing.specs.Words.{or_dash_of};
 use arithmetic::magnitude;
 use encoding::names::NAME_UNIT;
 
-const SPACE: u8 = b' ';
+pub const SPACE: u8 = b' ';
 
-const LINE_FEED: u8 = b'\n';
+pub const LINE_FEED: u8 = b'\n';
 
-const DASH: u8 = b'-';
+pub const DASH: u8 = b'-';
 
 const TEN: u64 = 10;
+
+const HUNDRED: u64 = 100;
+
+// One byte from a place on; answers the place after. What writes many bytes hands the place on so: in a writer it is loaded and stored at each.
+fn byte_put(buffer: &mut [u8], at: usize, b: u8) -> usize
+    ensures { Wrote (b ∷ []) buffer.old at buffer.new result }
+{
+    if at < buffer.len() {
+        buffer[at] = b;
+        return at + 1;
+    }
+    at.saturating_add(1)
+}
+
+// Bytes one by one.
+fn bytes_put(buffer: &mut [u8], at: usize, s: &[u8]) -> usize
+    ensures { Wrote s.now buffer.old at buffer.new result }
+{
+    let mut place = at;
+    for b in s {
+        place = byte_put(buffer, place, *b);
+    }
+    place
+}
+
+// The digits before the last two, then these.
+fn digits_put(buffer: &mut [u8], at: usize, x: u64) -> usize
+    ensures { Wrote (decimal x) buffer.old at buffer.new result }
+{
+    if x < TEN {
+        return byte_put(buffer, at, digit(x));
+    }
+    let mut last = at;
+    if HUNDRED <= x {
+        last = digits_put(buffer, last, x / HUNDRED);
+    }
+    last = byte_put(buffer, last, digit(x / TEN % TEN));
+    byte_put(buffer, last, digit(x % TEN))
+}
 
 // A lent buffer, and the place in it that is written next.
 #[derive(Drop)]
@@ -36,11 +75,7 @@ impl Writer<'_> {
     pub fn put_byte(&mut self, b: u8)
         ensures { Writes (b ∷ []) self.old self.new }
     {
-        let at = self.at;
-        self.at = at.saturating_add(1);
-        if at < self.buffer.len() {
-            self.buffer[at] = b;
-        }
+        self.at = byte_put(self.buffer, self.at, b);
     }
 
     pub fn put<W: Word>(&mut self, word: W)
@@ -68,9 +103,7 @@ impl Word for &[u8] {
     ghost bytes = { λ s. s.now };
 
     fn put(self, out: &mut Writer<'_>) {
-        for b in self {
-            out.put_byte(*b);
-        }
+        out.at = bytes_put(out.buffer, out.at, self);
     }
 }
 
@@ -92,12 +125,11 @@ fn digit(x: u64) -> u8
 impl Word for u64 {
     ghost bytes = { decimal };
 
-    // The digits before the last one, then the last one.
     fn put(self, out: &mut Writer<'_>) {
-        if TEN <= self {
-            (self / TEN).put(out);
+        if self < TEN {
+            return out.put_byte(digit(self));
         }
-        out.put_byte(digit(self % TEN));
+        out.at = digits_put(out.buffer, out.at, self);
     }
 }
 

@@ -8,14 +8,16 @@ use entry_points::Entry;
 use model::Model;
 use reports::{listing_buffer, report};
 use std::io;
-use std::io::{ErrorKind, Read};
+use std::io::Read;
 use streams::read_full;
 
 // One byte more than a text may have: a longer one is refused as such, and the rest of it is passed over.
 const TEXT: usize = Model::MAX_TEXT + 1;
 
-// Longer than the line of any record.
-const LINE: usize = 64;
+// An entry is told by its first letter: `unit` or `decl`. Three more and a space follow.
+const UNIT: u8 = b'u';
+
+const ENTRY_REST: u64 = 4;
 
 // A record but for its text.
 struct Record {
@@ -24,42 +26,44 @@ struct Record {
     size: u64,
 }
 
-// A number that is too large for a model's is no model's.
-fn parse(line: &[u8]) -> Option<Record> {
-    let mut words = str::from_utf8(line).ok()?.split(' ');
-    let model = words.next()?.parse().unwrap_or(u32::MAX);
-    let entry = match words.next()? {
-        "unit" => Entry::WholeHeader,
-        "decl" => Entry::SingleDeclaration,
-        _ => return None,
-    };
-    let size = words.next()?.parse().ok()?;
-    Some(Record { model, entry, size })
+// The next byte, if there is one.
+fn read_byte<R: Read>(input: &mut R) -> io::Result<Option<u8>> {
+    let mut byte = [0];
+    let n = read_full(input, &mut byte)?;
+    Ok((n == 1).then_some(byte[0]))
 }
 
-// Reads a line without its line feed: how many bytes it has.
-fn read_line<R: Read>(input: &mut R, line: &mut [u8]) -> io::Result<usize>
-    ensures { IfOk result (λ n. n ≤ length line.new) }
-{
-    for n in 0..line.len() {
-        if read_full(input, &mut line[n..n + 1])? == 0 || line[n] == b'\n' {
-            return Ok(n);
+// A number, and the byte after it, whatever that is. One that is too large counts as the largest.
+fn read_number<R: Read>(input: &mut R) -> io::Result<u32> {
+    let mut value = 0u32;
+    for _ in 0..u32::MAX {
+        match read_byte(input)? {
+            Some(b @ b'0'..=b'9') => {
+                value = value.saturating_mul(10).saturating_add(u32::from(b - b'0'));
+            }
+            _ => return Ok(value),
         }
     }
-    Ok(line.len())
+    Ok(value)
 }
 
-// The next record, if there is one.
+// Passes over bytes.
+fn pass<R: Read>(input: &mut R, count: u64) -> io::Result<()> {
+    io::copy(&mut input.by_ref().take(count), &mut io::sink())?;
+    Ok(())
+}
+
+// The next record, if there is one. No record is malformed.
 fn read_record<R: Read>(input: &mut R) -> io::Result<Option<Record>> {
-    let mut line = [0u8; LINE];
-    let size = read_line(input, &mut line)?;
-    if size == 0 {
-        return Ok(None);
-    }
-    match parse(&line[..size]) {
-        Some(record) => Ok(Some(record)),
-        None => Err(io::Error::from(ErrorKind::InvalidData)),
-    }
+    let model = read_number(input)?;
+    let entry = match read_byte(input)? {
+        None | Some(0) => return Ok(None),
+        Some(UNIT) => Entry::WholeHeader,
+        Some(_) => Entry::SingleDeclaration,
+    };
+    pass(input, ENTRY_REST)?;
+    let size = u64::from(read_number(input)?);
+    Ok(Some(Record { model, entry, size }))
 }
 
 // The text of a record, or the front of one that is too long, and the line feed after it.
@@ -71,12 +75,6 @@ fn read_text<R: Read>(input: &mut R, size: u64, text: &mut [u8]) -> io::Result<u
     io::copy(&mut rest, &mut io::sink())?;
     read_full(input, &mut [0])?;
     Ok(n)
-}
-
-fn write_answer<P: Print>(rt: &P, answer: &[u8]) -> io::Result<()> {
-    println!(rt; "answer {}", answer.len())?;
-    rt.write_all(answer)?;
-    rt.write_all(b"\n")
 }
 
 fn main(rt: HostRuntime) -> io::Result<()> {
@@ -100,10 +98,12 @@ fn main(rt: HostRuntime) -> io::Result<()> {
             &mut signeds,
             &mut out,
         );
-        let Some(answer) = out.get(..size) else {
+        let Some(end) = out.get_mut(size) else {
             return rt.eprintln("replay: a listing is too long");
         };
-        write_answer(&rt, answer)?;
+        *end = b'\n';
+        println!(rt; "answer {size}")?;
+        rt.write_all(&out[..size + 1])?;
     }
     Ok(())
 }

@@ -1,7 +1,7 @@
 -- Laws of the classes of bytes. Assumes nothing.
 use mathlib.Core.Path.{◌≡◌, refl, sym, ap, ◌∙◌}
 use mathlib.Core.Bool.{Bool, true, false, ◌||◌}
-use Prim.Native.Nat.{ℕ, ◌≤◌, ◌<◌}
+use Prim.Native.Nat.{ℕ, ◌≤◌, ◌<◌, ◌/◌, ◌%◌, ◌^◌}
 use native.Mathlib.Omega.{arith}
 use borrow.Author.Tests.{eqb-true, eqb-false, ltb-true, ltb-false, ne_eqb}
 use lib.Dec.{eqb, ltb}
@@ -54,6 +54,14 @@ blank_is b = ap (λ (k : ℕ). eqb k 1) (class-is b) ∙ class-blank (is_blank_b
 
 pub few_classes : (b : ℕ) → class_of b ≤ 4
 few_classes b = rw (class-is b) (class-bound (is_blank_byte b) (is_letter_byte b) (is_digit_byte b) (among b mark_bytes))
+
+-- bytes as bits of a number
+abbrev bit : ℕ → ℕ → Bool
+bit m k = eqb (m / 2 ^ k % 2) 1
+
+pub word_high : (b : ℕ) → 64 ≤ b → b < 128 → bit 576460745995190270 (b % 64) ≡ is_word_byte b
+unfolding is_word_byte class_of is_blank_byte is_letter_byte is_digit_byte among mark_bytes bytes
+word_high b l h = equal _ _ (within (λ (k : ℕ). alike (bit 576460745995190270 (k % 64)) (is_word_byte k)) 64 64 tt b l h)
 
 pub word-past : (b : ℕ) → 128 ≤ b → is_word_byte b ≡ false
 unfolding is_word_byte

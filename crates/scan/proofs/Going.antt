@@ -6,14 +6,14 @@ use mathlib.Mathlib.Data.Bool.Basic.{and_elim_right}
 use Prim.Native.Nat.{ℕ, zero, suc, ◌+◌, ◌-◌, ◌≤◌, ◌<◌, min}
 use native.Mathlib.Numerals.{add-one}
 use native.Mathlib.Omega.{arith}
-use borrow.Author.Tests.{eqb-true, eq-eqb, ne_eqb}
+use borrow.Author.Tests.{eqb-true, ne_eqb}
 use lib.Dec.{eqb}
 use lib.ListN.{length, drop, take, get_or, drop_of_length-le, length-drop, get_or-eq_default}
 use lib.Seq.{get_or-drop, take-suc, take_all}
 use Rattle.definition.specs.Text.{Bytes, byte_at}
 use Rattle.definition.specs.Scan.{from, second, begins, before}
 use Rattle.definition.specs.Place.{Place, after, after_all, place_of}
-use Rattle.std.specs.Prelude.{Option, Some, None, MatchOption}
+use Rattle.std.specs.Prelude.{Option, MatchOption}
 use Rattle.std.specs.List.{AllWithin, HoldsAt}
 use Rattle.std.specs.Option.{unwrap_or}
 use Rattle.std.proofs.lemmas.Iterator.{index_from_first}

@@ -13,6 +13,9 @@ ghost use Rattle.scan.specs.Classes.{byte, class_number};
 ghost use Rattle.scan.specs.Ends.{Ends};
 ghost use Rattle.scan.specs.Where.{place};
 
+// Bit k says whether byte 64 + k is a letter or _.
+const LETTERS: u64 = 0x07FF_FFFE_87FF_FFFE;
+
 // The class of a byte.
 #[derive(Clone, Copy, PartialEq, Eq)]
 pub enum Class {
@@ -67,12 +70,13 @@ pub fn is_blank(b: u32) -> bool
     }
 }
 
-#[tactic(auto, using(crate::proofs::Classes::word_is, std::proofs::lemmas::Bool::Decides::nat_tests), unfolding(definition::specs::Class::is_letter_byte, definition::specs::Class::is_digit_byte))]
+#[tactic(auto, using(crate::proofs::Classes::word_is, crate::proofs::Classes::word_high, std::proofs::lemmas::Bool::Decides::nat_tests), unfolding(definition::specs::Class::is_letter_byte, definition::specs::Class::is_digit_byte))]
 pub fn is_word_byte(b: u32) -> bool
     ensures { result ≡ is_word_byte b }
 {
     match u8::try_from(b) {
-        Ok(b) => matches!(b, b'0'..=b'9' | b'A'..=b'Z' | b'_' | b'a'..=b'z'),
+        Ok(b @ b'@'..=b'\x7F') => (LETTERS >> (b % 64)) % 2 == 1,
+        Ok(b) => matches!(b, b'0'..=b'9'),
         Err(_) => false,
     }
 }

@@ -5,14 +5,18 @@ use mathlib.Core.Option.{Option, some}
 use mathlib.Core.List.{List, [], ◌∷◌}
 use Prim.Native.Nat.{ℕ, suc, ◌≤◌, ◌<◌}
 use native.Mathlib.Omega.{arith}
+use lib.Dec.{eqb}
+use borrow.Author.Tests.{ne_eqb}
 use Rattle.std.proofs.lemmas.Grind.{common_steps}
-use Rattle.definition.specs.Row.{Row, void, int, float, bool, pointer, array, composite, enumeration, function, typedef, qualified, kind_of, flags_of, span_of}
+use Rattle.definition.specs.Row.{Row, void, int, float, bool, pointer, array, composite, enumeration, function, typedef, qualified, kind_of, target_of, flags_of, span_of}
 use lib.ListN.{length}
 use Rattle.std.specs.Prelude.{Option as CodeOption, MatchOption}
 use Rattle.std.proofs.Common.{Some, None}
 use Rattle.lemmas.specs.Options.{option}
 use Rattle.definition.specs.Table.{Table, row_at}
 use Rattle.definition.specs.Types.{same_numbers, same_row, equal_row, qualifiers_of}
+use Rattle.lemmas.proofs.Branch.{nay}
+use Rattle.lemmas.proofs.Truth.{not_first, not_second}
 use Rattle.words.proofs.Uses.{bits-qualifiers}
 use Rattle.words.specs.Meaning.{qualifiers_in}
 use Rattle.named_rows.proofs.Searches.{first_row, look_skip, look-yes, look-end}
@@ -21,6 +25,16 @@ use Rattle.named_rows.proofs.Searches.{first_row, look_skip, look-yes, look-end}
 pub same_count : (x y : Row) → same_numbers x y ≡ true → (span_of x).count ≡ (span_of y).count
 unfolding same_numbers
 same_count x y e = grind (arith, common_steps)
+
+-- a row of another kind, or of another target, is another row
+module _ (t : Table) (x : Row) (n : ℕ) (y : Row) where
+  pub other_kind : (kind_of x ≡ kind_of y → ⊥) → false ≡ same_row t x n y
+  unfolding same_row same_numbers
+  other_kind p = sym (nay _ _ _ (not_first _ (ne_eqb (kind_of x) (kind_of y) p)))
+
+  pub other_target : (target_of x ≡ target_of y → ⊥) → false ≡ same_row t x n y
+  unfolding same_row same_numbers
+  other_target p = sym (nay _ _ _ (not_second (eqb (kind_of x) (kind_of y)) (not_first _ (ne_eqb (target_of x) (target_of y) p))))
 
 -- an equal row is searched so
 pub equal_is : (t : Table) (x : Row) (n : ℕ) (rs : List Row) → equal_row t x n rs ≡ first_row (same_row t x) n rs

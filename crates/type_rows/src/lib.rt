@@ -1,6 +1,7 @@
 #![tactic(auto)]
 // Rows equal "as the Rust's types are, first bits not compared", `add` of an unnamed type, and `qualified`.
 ghost use Rattle.std.specs.Prelude.{◌≤◌, ◌<◌, length};
+ghost use Rattle.definition.specs.Limit.{max_rows};
 ghost use Rattle.definition.specs.Row.{qualified, qualifier_bits};
 ghost use Rattle.definition.specs.Table.{row_at};
 ghost use Rattle.definition.specs.Types.{same_row, equal_row, add, qualify};
@@ -9,7 +10,7 @@ ghost use Rattle.table.specs.Reply.{reply, numbers, Does, DoesAs};
 ghost use Rattle.words.specs.Meaning.{qualifiers};
 ghost use Rattle.type_rows.specs.Equal.{NumbersSame, EntriesSame, RowSays, RowFinds, MergedBits};
 
-use encoding::regions::{OPEN_LIST, WORDS};
+use encoding::regions::{OPEN_LIST, ROW_COLUMNS, ROW_TARGET, WORDS};
 use encoding::row_kinds::{ENUM_KIND, FUNCTION_KIND, QUALIFIED_KIND};
 use same_entries::{same_members, same_parameters, same_values};
 use table::{
@@ -55,6 +56,16 @@ fn same_row(w: &[u32; WORDS], d: &[u64], v: &[i64], c: Cursor, row: Numbers, n: 
     same_numbers(w, d, row, n) && same_entries(w, d, v, c, row, n)
 }
 
+// Row n equals a new one. Few rows are of its kind and target, so these are compared first, where they stand.
+fn is_equal(w: &[u32; WORDS], d: &[u64], v: &[i64], c: Cursor, row: Numbers, n: u32) -> bool
+    requires n_lt_max_rows { n < max_rows }
+    requires first_bound { row.first ≤ 4096 }
+    ensures { RowSays (λ t x. same_row t x n (row_at t n)) row c w.now d.now v.now result }
+{
+    let at = ROW_COLUMNS * n as usize;
+    row.kind == w[at] && row.target == w[at + ROW_TARGET] && same_row(w, d, v, c, row, n)
+}
+
 // The first row that a new one equals. A slice of another length holds no table.
 pub fn equal_row(w: &[u32], d: &[u64], v: &[i64], c: Cursor, row: Numbers) -> Option<u32>
     requires { Room c × (row.first ≤ 4096) }
@@ -63,7 +74,7 @@ pub fn equal_row(w: &[u32], d: &[u64], v: &[i64], c: Cursor, row: Numbers) -> Op
     let Ok(w) = <&[u32; WORDS]>::try_from(w) else {
         return None;
     };
-    (0..c.rows as u32).find(|n| same_row(w, d, v, c, row, *n))
+    (0..c.rows as u32).find(|n| is_equal(w, d, v, c, row, *n))
 }
 
 // `add` of an unnamed type: an equal row, or the next one.

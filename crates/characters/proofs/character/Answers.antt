@@ -1,6 +1,5 @@
 use mathlib.Core.Path.{◌≡◌, ap, ◌∙◌}
 use Rattle.std.proofs.lemmas.Result.{err_from_is_err_and}
-use Rattle.std.specs.Prelude.{None}
 use Rattle.std.specs.Result.{result_ok}
 use Rattle.encoding.specs.declared.refusals.Reason.TheVariants.{OutOfRange}
 use Rattle.characters.proofs.Constant.{going-ends, going-got, going-past, going-stops}

@@ -15,7 +15,7 @@ returns-in-8 c = record {
       (c.entry_lines.ensures.of (λ i. (value_at s i).row) (λ i. value_line c.args.text.now (value_at s i))
       (λ i k r. let w = h.words in search rules)
       (λ i p q l. let w = h.words in let d = h.signeds in search rules))
-      (entries-listed (λ e. e.row) (value_line _) _ s.values no_value (c.row_count-count.ensures.of s h.words) (c.row_first-first.ensures.of s h.words) h.counts.values
+      (entries-listed (λ e. e.row) (value_line _) _ s.values no_value (c.row_count.ensures.of s h.words) (c.row_first.ensures.of s h.words) h.counts.values
       ∙ sym (values-under _ s c.args.row (row_at s c.args.row) (c.row_kind-kind.ensures.of s h.words) c.in-8.is));
 }
 
@@ -27,7 +27,7 @@ returns-in-9 c = record {
       (c.entry_lines-in-9.ensures.of (λ i. (parameter_at s i).row) (λ i. param_line c.args.text.now (parameter_at s i))
       (λ i k r. let w = h.words in search rules)
       (λ i p q l. let w = h.words in search rules))
-      (entries-listed (λ e. e.row) (param_line _) _ s.parameters no_parameter (c.row_count-count.ensures.of s h.words) (c.row_first-first.ensures.of s h.words) h.counts.parameters
+      (entries-listed (λ e. e.row) (param_line _) _ s.parameters no_parameter (c.row_count-in-9.ensures.of s h.words) (c.row_first-in-9.ensures.of s h.words) h.counts.parameters
       ∙ sym (params-under _ s c.args.row (row_at s c.args.row) (c.row_kind-kind.ensures.of s h.words) c.in-9.is));
 }
 
@@ -42,7 +42,7 @@ returns-in-6 c = record {
       (c.entry_lines-in-6.ensures.of (λ i. (member_at s i).row) (λ i. member_line c.args.text.now (member_at s i))
       (λ i k r. let w = h.words in search rules)
       (λ i p q l. let w = h.words in let d = h.wides in search rules))
-      (entries-listed (λ e. e.row) (member_line _) _ s.members no_member (c.row_count-count.ensures.of s h.words) (c.row_first-first.ensures.of s h.words) h.counts.members
+      (entries-listed (λ e. e.row) (member_line _) _ s.members no_member (c.row_count-in-6.ensures.of s h.words) (c.row_first-in-6.ensures.of s h.words) h.counts.members
       ∙ sym (members-under _ s c.args.row (row_at s c.args.row) (c.row_kind-kind.ensures.of s h.words) (omega arith) (omega arith)));
 }
 

@@ -1,4 +1,0 @@
-use Rattle.printing.proofs.U64Word.+put.Given as goal
-
-abbrev pub decreases-put : goal.decreases-put
-decreases-put l = l.self
