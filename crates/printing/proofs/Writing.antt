@@ -1,11 +1,10 @@
 -- How writes follow one another. Assumes nothing.
 use mathlib.Core.Path.{◌≡◌, refl, sym, ap, ◌∙◌}
 use mathlib.Core.List.{List, [], ◌∷◌, ◌++◌, append_assoc, append-nil}
-use Prim.Native.Nat.{ℕ, ◌+◌, ◌-◌, ◌≤◌, min}
+use Prim.Native.Nat.{ℕ, ◌+◌, ◌≤◌, min}
 use native.Mathlib.Omega.{arith}
-use lib.ListN.{length, set, take, length-set}
-use lib.Seq.{set_out, sets-eq}
-use borrow.Rule.Slice.PartMut.{put_mid, Post-is}
+use lib.ListN.{length, set, length-set}
+use lib.Seq.{set_out}
 use lib.Dec.{ltb}
 use mathlib.Core.Bool.{Bool, true, false}
 use borrow.Author.Tests.{ltb-true, ltb-false}
@@ -14,7 +13,6 @@ use Rattle.definition.specs.Byte.{space, line_feed}
 use Rattle.definition.specs.Listing.{parted, line}
 use Rattle.printing.specs.declared.Writer.{Writer}
 use Rattle.printing.specs.Written.{Buffer, buffer, most_counted, counted, put, write, Wrote, Keeps, Writes, words, WritesWords}
-use Rattle.printing.specs.Fitting.{stores}
 
 write-append : (b : Buffer) (xs ys : Bytes) → write b (xs ++ ys) ≡ write (write b xs) ys
 unfolding write
@@ -42,13 +40,6 @@ module _ (out : Bytes) (n x : ℕ) {m : ℕ} (p : n ≤ most_counted) (e : m ≡
 
   pub counted_on : length out ≤ n → Wrote (x ∷ []) out n out m
   counted_on h = rw (set_out out n x h) at stored
-
--- bytes at once, where they fit
-pub placed : (bs out : Bytes) (n : ℕ) → n + length bs ≤ length out → length out ≤ most_counted → Wrote bs out n (put_mid n (n + length bs - n) out bs) (n + length bs)
-placed bs out n h l = record {
-  is = ap (λ o. buffer (take n out ++ (bs ++ o)) (n + length bs)) (Post-is n (n + length bs) out (omega arith))
-      ∙ (ap (λ o. buffer o (n + length bs)) (sym (sets-eq bs out n h ∙ append_assoc (take n out) bs _)) ∙ sym (stores bs out n (omega arith)));
-}
 
 -- nothing is written
 pub nothing_there : {out : Bytes} {n : ℕ} → Wrote [] out n out n

@@ -10,7 +10,7 @@ one_more : (n : ℕ) → n < most_counted → counted n ≡ suc n
 unfolding counted
 one_more n h = rw (lt-ltb n most_counted h, counted) (add-one n)
 
-pub stores : (bs out : Bytes) (n : ℕ) → n + length bs ≤ most_counted → write (buffer out n) bs ≡ buffer (sets out n bs) (n + length bs)
+stores : (bs out : Bytes) (n : ℕ) → n + length bs ≤ most_counted → write (buffer out n) bs ≡ buffer (sets out n bs) (n + length bs)
 unfolding write
 stores [] out n h = let e : n ≡ n + 0 = omega arith in ap (λ k. buffer out k) e
 stores (b ∷ bs) out n h =

@@ -19,8 +19,8 @@ const TEN: u64 = 10;
 
 const HUNDRED: u64 = 100;
 
-// One byte from a place on; answers the place after. What writes many bytes hands the place on so: in a writer it is loaded and stored at each.
-fn byte_put(buffer: &mut [u8], at: usize, b: u8) -> usize
+// One byte at a place of a buffer: the place after it. A writer has its place in memory, so what writes many bytes keeps it in a local.
+fn place_byte(buffer: &mut [u8], at: usize, b: u8) -> usize
     ensures { Wrote (b ∷ []) buffer.old at buffer.new result }
 {
     if at < buffer.len() {
@@ -30,30 +30,30 @@ fn byte_put(buffer: &mut [u8], at: usize, b: u8) -> usize
     at.saturating_add(1)
 }
 
-// Bytes one by one.
-fn bytes_put(buffer: &mut [u8], at: usize, s: &[u8]) -> usize
+// Bytes from a place on.
+fn place_bytes(buffer: &mut [u8], at: usize, s: &[u8]) -> usize
     ensures { Wrote s.now buffer.old at buffer.new result }
 {
     let mut place = at;
     for b in s {
-        place = byte_put(buffer, place, *b);
+        place = place_byte(buffer, place, *b);
     }
     place
 }
 
 // The digits before the last two, then these.
-fn digits_put(buffer: &mut [u8], at: usize, x: u64) -> usize
+fn place_digits(buffer: &mut [u8], at: usize, x: u64) -> usize
     ensures { Wrote (decimal x) buffer.old at buffer.new result }
 {
     if x < TEN {
-        return byte_put(buffer, at, digit(x));
+        return place_byte(buffer, at, digit(x));
     }
     let mut last = at;
     if HUNDRED <= x {
-        last = digits_put(buffer, last, x / HUNDRED);
+        last = place_digits(buffer, last, x / HUNDRED);
     }
-    last = byte_put(buffer, last, digit(x / TEN % TEN));
-    byte_put(buffer, last, digit(x % TEN))
+    last = place_byte(buffer, last, digit(x / TEN % TEN));
+    place_byte(buffer, last, digit(x % TEN))
 }
 
 // A lent buffer, and the place in it that is written next.
@@ -75,7 +75,7 @@ impl Writer<'_> {
     pub fn put_byte(&mut self, b: u8)
         ensures { Writes (b ∷ []) self.old self.new }
     {
-        self.at = byte_put(self.buffer, self.at, b);
+        self.at = place_byte(self.buffer, self.at, b);
     }
 
     pub fn put<W: Word>(&mut self, word: W)
@@ -103,7 +103,7 @@ impl Word for &[u8] {
     ghost bytes = { λ s. s.now };
 
     fn put(self, out: &mut Writer<'_>) {
-        out.at = bytes_put(out.buffer, out.at, self);
+        out.at = place_bytes(out.buffer, out.at, self);
     }
 }
 
@@ -129,7 +129,7 @@ impl Word for u64 {
         if self < TEN {
             return out.put_byte(digit(self));
         }
-        out.at = digits_put(out.buffer, out.at, self);
+        out.at = place_digits(out.buffer, out.at, self);
     }
 }
 

@@ -1,6 +1,6 @@
 use Rattle.std.proofs.Common.{arith}
 use Rattle.printing.proofs.Writing.{stored, counted_on}
-use Rattle.printing.proofs.byte_put.Goals as goal
+use Rattle.printing.proofs.place_byte.Goals as goal
 
 pub returns-then-at-buffer : goal.returns-then-at-buffer
 returns-then-at-buffer c = stored _ _ _ (omega arith) (omega arith)
