@@ -191,7 +191,9 @@ pub fn conditional(s: &Source<'_>, c: Place, room: u32) -> Result<(Place, i64), 
     }
     let (colon, y) = conditional(s, t.next(), room - 1)?;
     let last = colon.past(s.kinds, TokenKind::Colon)?;
-    let (e, z) = conditional(s, last, room - 1)?;
+    // It has a name, so that the proof speaks of this answer itself.
+    let third = conditional(s, last, room - 1);
+    let (e, z) = third?;
     if x == 0 {
         return Ok((e, z));
     }

@@ -4,10 +4,8 @@ use mathlib.Core.Path.{◌≡◌, refl, sym, ap, ◌∙◌}
 use mathlib.Core.Bool.{Bool, true, false, ◌&&◌, not, false≢true, or-true}
 use mathlib.Core.Option as maybe
 use Prim.Native.Nat.{ℕ, ◌+◌}
-use denote.Enum.Bare.{false_same}
 use lib.Dec.{eqb}
 use borrow.Author.Tests.{eq-eqb, ne_eqb}
-use Rattle.std.proofs.Common.{rules}
 use Rattle.std.specs.Prelude.{Option, Some, None, is_some}
 use Rattle.definition.specs.Kind.{is_name, star, open_paren}
 use Rattle.definition.specs.Token.{Tokens, kind_at, number_at}
@@ -18,16 +16,15 @@ use Rattle.definition.specs.Types.{typedef_row}
 use Rattle.definition.specs.Specifier.{builtin}
 use Rattle.definition.specs.Declarator.{opens_declarator}
 use Rattle.encoding.specs.Kinds.{kind_number}
-use Rattle.encoding.specs.contracts.token_kinds.TokenKind.{the_type}
 use Rattle.encoding.specs.declared.token_kinds.TokenKind.{TokenKind}
-use Rattle.encoding.proofs.TokenKinds.{no_kind}
+use Rattle.encoding.proofs.TokenKinds.{apart as kinds_apart}
 use Rattle.lemmas.specs.Options.{option}
 use Rattle.words.specs.declared.types.BaseRow.{BaseRow}
 use Rattle.words.specs.Meaning.{known}
 
 -- kinds that differ have numbers that differ
 pub apart : (k j : TokenKind) → (k ≡ j → ⊥) → kind_number k ≡ kind_number j → ⊥
-apart k j n = no_kind k j refl (false_same the_type (search rules) k j n)
+apart k j n = kinds_apart k j n
 
 pub not_not : (b : Bool) → not (not b) ≡ b
 not_not true = refl

@@ -5,6 +5,7 @@ use Prim.Native.Nat.{ℕ, zero, suc, ◌<◌}
 use lib.ListN.{length, get_or, get_or-map, replicate, length-map}
 use Rattle.std.proofs.lemmas.List.{map-set}
 use Rattle.encoding.specs.Kinds.{kind_number, kind_numbers}
+use Rattle.encoding.proofs.TokenKinds.{one_kind}
 use Rattle.encoding.specs.declared.token_kinds.TokenKind.{TokenKind}
 use Rattle.encoding.specs.declared.token_kinds.TokenKind.TheVariants.{End}
 
@@ -19,6 +20,9 @@ kinds_inside ks h = rw (length-map ks kind_number) h
 pub kinds_cleared : (n : ℕ) → kind_numbers (replicate n End) ≡ replicate n 0
 kinds_cleared zero = refl
 kinds_cleared (suc n) = ap (λ (x : List ℕ). 0 ∷ x) (kinds_cleared n)
+
+pub kinds_filled : (n : ℕ) (k : TokenKind) → kind_number k ≡ 0 → kind_numbers (replicate n k) ≡ replicate n 0
+kinds_filled n k e = rw (one_kind k End e) (kinds_cleared n)
 
 -- a kind more, in a column as long as before
 pub ruleset kinds_stored = (map-set, length-map)

@@ -3,7 +3,7 @@ use Rattle.std.specs.Prelude.{List, [], ◌∷◌, ℕ, map}
 use Rattle.definition.specs.Kind.{end, number, text, attribute, identifier, int8_name, int16_name, int32_name, int64_name, uint8_name, uint16_name, uint32_name, uint64_name, intmax_name, uintmax_name, intptr_name, ssize_name, ptrdiff_name, uintptr_name, size_name, wchar_name, char8_name, char16_name, char32_name, bool_name, void_word, char_word, short_word, int_word, long_word, float_word, double_word, signed_word, unsigned_word, bool_word, complex_word, struct_word, union_word, enum_word, const_word, volatile_word, restrict_word, atomic_word, typedef_word, extern_word, static_word, auto_word, register_word, inline_word, noreturn_word, thread_local_word, extension_word, sizeof_word, ellipsis, shift_left, shift_right, less_equal, greater_equal, equal_equal, not_equal, and_and, or_or, open_paren, close_paren, open_bracket, close_bracket, open_brace, close_brace, star, comma, semicolon, colon, question, equals, plus, minus, tilde, bang, slash, percent, ampersand, caret, bar, less, greater, dot}
 use Rattle.definition.specs.RowKind.{void_kind, int_kind, float_kind, bool_kind, pointer_kind, array_kind, struct_kind, union_kind, enum_kind, function_kind, typedef_kind, qualified_kind}
 use Rattle.encoding.specs.declared.token_kinds.TokenKind.{TokenKind}
-use Rattle.encoding.specs.declared.token_kinds.TokenKind.TheVariants.{End, Number, Text, Attribute, Identifier, Int8Name, Int16Name, Int32Name, Int64Name, Uint8Name, Uint16Name, Uint32Name, Uint64Name, IntmaxName, UintmaxName, IntptrName, SsizeName, PtrdiffName, UintptrName, SizeName, WcharName, Char8Name, Char16Name, Char32Name, BoolName, VoidWord, CharWord, ShortWord, IntWord, LongWord, FloatWord, DoubleWord, SignedWord, UnsignedWord, BoolWord, ComplexWord, StructWord, UnionWord, EnumWord, ConstWord, VolatileWord, RestrictWord, AtomicWord, TypedefWord, ExternWord, StaticWord, AutoWord, RegisterWord, InlineWord, NoreturnWord, ThreadLocalWord, ExtensionWord, SizeofWord, Ellipsis, ShiftLeft, ShiftRight, LessEqual, GreaterEqual, EqualEqual, NotEqual, AndAnd, OrOr, OpenParen, CloseParen, OpenBracket, CloseBracket, OpenBrace, CloseBrace, Star, Comma, Semicolon, Colon, Question, Equals, Plus, Minus, Tilde, Bang, Slash, Percent, Ampersand, Caret, Bar, Less, Greater, Dot}
+use Rattle.encoding.specs.declared.token_kinds.TokenKind.TheVariants.{End, Number, Text, Attribute, Identifier, Int8Name, Int16Name, Int32Name, Int64Name, Uint8Name, Uint16Name, Uint32Name, Uint64Name, IntmaxName, UintmaxName, IntptrName, SsizeName, PtrdiffName, UintptrName, SizeName, WcharName, Char8Name, Char16Name, Char32Name, BoolName, VoidWord, CharWord, ShortWord, IntWord, LongWord, FloatWord, DoubleWord, SignedWord, UnsignedWord, BoolWord, ComplexWord, StructWord, UnionWord, EnumWord, ConstWord, VolatileWord, RestrictWord, AtomicWord, TypedefWord, ExternWord, StaticWord, AutoWord, RegisterWord, InlineWord, NoreturnWord, ThreadLocalWord, ExtensionWord, SizeofWord, Ellipsis, ShiftLeft, ShiftRight, LessEqual, GreaterEqual, EqualEqual, NotEqual, AndAnd, OrOr, OpenParen, CloseParen, OpenBracket, CloseBracket, OpenBrace, CloseBrace, Star, Comma, Semicolon, Colon, Question, Equals, Plus, Minus, Tilde, Bang, Slash, Percent, Ampersand, Caret, Bar, Less, Greater, Dot, Other}
 
 abbrev pub kind_number : TokenKind → ℕ
 kind_number End = end
@@ -92,6 +92,7 @@ kind_number Bar = bar
 kind_number Less = less
 kind_number Greater = greater
 kind_number Dot = dot
+kind_number (Other k) = k.number
 
 -- the kinds of a column of tokens
 abbrev pub kind_numbers : List TokenKind → List ℕ

@@ -257,7 +257,9 @@ fn read_in<const LENGTH: usize, const LINKED: usize>(
     requires encodes { Encodes new_table first_cursor w.old d.old v.old }
     ensures { Read (read_with (model m) (entry_of entry) text.now) w.old d.old v.old (answer result) w.new d.new v.new }
 {
-    let mut kinds = [TokenKind::End; LENGTH];
+    // Not `End` itself: the compiler would leave its second half out, and fill the column entry by entry.
+    let end = TokenKind::from(0);
+    let mut kinds = [end; LENGTH];
     let mut places = [0u32; LENGTH];
     let mut numbers = [0u64; LENGTH];
     let mut links = [0u16; LINKED];

@@ -1,8 +1,5 @@
 -- The log stands in no slice, a body's values are at least those before it, and a level's enumeration. Assumes nothing.
-use denote.Enum.Bare.{same_true}
-use borrow.Author.Rules.{rules}
-use borrow.Author.Tests.{eq-eqb}
-use mathlib.Core.Path.{◌≡◌, refl, ap, sym, ◌∙◌}
+use mathlib.Core.Path.{◌≡◌, refl, ap, sym}
 use mathlib.Core.List.{List, [], ◌∷◌}
 use Prim.Native.Nat.{ℕ, zero, suc, ◌-◌, ◌≤◌}
 use native.Mathlib.Omega.{arith}
@@ -31,9 +28,8 @@ use Rattle.table.proofs.Branch.{by, via, halt}
 use Rattle.table.proofs.Shown.{went}
 use Rattle.table.proofs.Shown as Shown
 use Rattle.body_rows.proofs.Logs.{logged-on}
-use Rattle.encoding.proofs.TokenKinds.{same_kind}
+use Rattle.encoding.proofs.TokenKinds.{apart}
 use Rattle.encoding.specs.Kinds.{kind_number}
-use Rattle.encoding.specs.contracts.token_kinds.TokenKind.{the_type}
 use Rattle.encoding.specs.declared.token_kinds.TokenKind.{TokenKind}
 use Rattle.enumerators.specs.Doing.{enumerators_here}
 
@@ -94,7 +90,7 @@ tagged {at = at} ts m next s p h = by (ap (λ (z : ℕ). after_tag ts m next z a
 
 -- a kind that is not j has another number
 pub another : (k j : TokenKind) → (k ≡ j → ⊥) → kind_number k ≡ kind_number j → ⊥
-another k j n e = n (same_true the_type (search rules) k j (same_kind k j ∙ eq-eqb _ _ e))
+another k j n e = apart k j n e
 
 -- ---- a level's enumeration: refused where no level is left
 

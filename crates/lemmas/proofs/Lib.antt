@@ -1,4 +1,5 @@
 pub mod Branch
 pub mod Lists
 pub mod Picked
+pub mod Ties
 pub mod Truth

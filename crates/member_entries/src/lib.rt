@@ -49,7 +49,9 @@ pub fn field(
     requires { Held c w.old d.old v.old × (first ≤ max_members) }
     ensures { (m : MeantModel) → Moves (field (tokens (kind_numbers kinds.now) numbers.now) m (levels (tokens (kind_numbers kinds.now) numbers.now) m room) unnamed first ty name at) c w.old d.old v.old (reply_alone result) w.new d.new v.new }
 {
-    let (e, width) = bit_width(kinds, numbers, w, v, c, at, room)?;
+    // It has a name, so that the proof speaks of this answer itself.
+    let read = bit_width(kinds, numbers, w, v, c, at, room);
+    let (e, width) = read?;
     if !unnamed && name == NO_NAME {
         return Err(Refusal {
             reason: Reason::MissingName,

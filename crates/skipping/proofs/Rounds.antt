@@ -94,6 +94,10 @@ module _ (ks : List TokenKind) (a : ℕ) {rest : List TokenKind} (e : rest ≡ d
       let n : a + i < length ks = omega (arith, all-from, length-map ks kind_number) in
       get_or-map kind_number ks (a + i) d end n ∙ ap kind_number (sym (get_or-drop a ks i d) ∙ ap (λ l. get_or l i d) (sym e))
 
+  -- the kind of a token that was read
+  pub kind-read : (i : ℕ) {k : TokenKind} → k ≡ get_or rest i k → i < length rest → get_or (kind_numbers ks) (a + i) end ≡ kind_number k
+  kind-read i {k} is h = kind-from i k h ∙ ap kind_number (sym is)
+
 -- all words before a bound
 abbrev pub precedes : TokenKind → Bool
 precedes k = precedes_bound (kind_number k)

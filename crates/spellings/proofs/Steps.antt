@@ -6,6 +6,7 @@ use Prim.Native.Nat.{ℕ, suc, ◌+◌, ◌-◌, ◌*◌, ◌/◌, ◌%◌, ◌^
 use native.Mathlib.Omega.{arith}
 use lib.Dec.{ltb}
 use lib.ListN.{length, get_or}
+use Rattle.std.proofs.lemmas.List.{get_or_read_under}
 use Rattle.definition.specs.Text.{Bytes, byte_at}
 use Rattle.encoding.specs.Kinds.{kind_number, kind_numbers}
 use Rattle.encoding.specs.declared.token_kinds.TokenKind.{TokenKind}
@@ -17,6 +18,9 @@ use Rattle.spellings.specs.Chain.{bit_of, branch, Reach, here, there, Keeps, Ris
 -- what the code reads of a kind
 pub is_name_at : (text w : Bytes) (ks : List TokenKind) (j n : ℕ) {t : Bool} → is_name_of text w (kind_number (get_or ks j End)) n ≡ t → is_name_of text w (get_or (kind_numbers ks) j 0) n ≡ t
 is_name_at text w ks j n e = rw (kind_there ks j) e
+
+pub is_name_read : (text w : Bytes) (ks : List TokenKind) (j n : ℕ) {k : TokenKind} {t : Bool} → k ≡ get_or ks j k → j < length ks → is_name_of text w (kind_number k) n ≡ t → is_name_of text w (get_or (kind_numbers ks) j 0) n ≡ t
+is_name_read text w ks j n {k} is h e = is_name_at text w ks j n (rw (sym (get_or_read_under ks j (length ks) k End is h refl)) e)
 
 -- a bit of a spelling
 bit-low : (w : Bytes) (d : ℕ) → bit_of w d < 2

@@ -14,13 +14,14 @@ use model::Model;
 use spellings::HEADS;
 
 // The three columns, cleared.
-#[tactic(auto, using(encoding::proofs::KindColumns::kinds_cleared))]
+#[tactic(auto, using(encoding::proofs::KindColumns::kinds_filled))]
 fn clear(kinds: &mut [TokenKind], places: &mut [u32], numbers: &mut [u64])
     ensures kinds_cleared { kind_numbers kinds.new ≡ replicate (length kinds.old) 0 }
     ensures places_cleared { places.new ≡ replicate (length places.old) 0 }
     ensures numbers_cleared { numbers.new ≡ replicate (length numbers.old) 0 }
 {
-    kinds.fill(TokenKind::End);
+    // Not `End` itself: the compiler would leave its second half out, and fill the column entry by entry.
+    kinds.fill(TokenKind::from(0));
     places.fill(0);
     numbers.fill(0);
 }

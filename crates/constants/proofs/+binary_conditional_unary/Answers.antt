@@ -109,7 +109,7 @@ pub conditional-returns-in_err-e : goal.conditional-returns-in_err-e
 unfolding condition₁
 conditional-returns-in_err-e t c = (by (a-condition _ _ _ c.if-room-eq0.false) (via _ (sym (c.in_ok-t.ensures ∙ a-chain _ _ _ _ c.if-room-eq0.false))
     (eq+ _ _ _ _ (sym c.kind.ensures.is ∙ is_kind! c.kind.result Question c.ne.ensures c.if-ne.false) (via _ (sym (rw c.next.ensures at c.in_ok-colon.ensures))
-    (via _ (sym (c.in_ok-last.ensures c.args.s.now.numbers.now)) (halt _ (sym c.in_err-e.ensures) (exit _ _ c.from_residual-in_err-e.ensures.1))))))).ends
+    (via _ (sym (c.in_ok-last.ensures c.args.s.now.numbers.now)) (halt _ (sym (rw c.in_err-e.was at c.conditional-third.ensures)) (exit _ _ c.from_residual-in_err-e.ensures.1))))))).ends
 
 pub conditional-returns-then-x-eq0 : goal.conditional-returns-then-x-eq0
 unfolding condition₁
@@ -118,7 +118,7 @@ conditional-returns-then-x-eq0 t c =
     let g : SFits w64 c.in_ok-e.z = search rules in
     (by (a-condition _ _ _ c.if-room-eq0.false) (via _ (sym (c.in_ok-t.ensures ∙ a-chain _ _ _ _ c.if-room-eq0.false))
     (eq+ _ _ _ _ (sym c.kind.ensures.is ∙ is_kind! c.kind.result Question c.ne.ensures c.if-ne.false) (via _ (sym (rw c.next.ensures at c.in_ok-colon.ensures))
-    (via _ (sym (c.in_ok-last.ensures c.args.s.now.numbers.now)) (via _ (sym c.in_ok-e.ensures)
+    (via _ (sym (c.in_ok-last.ensures c.args.s.now.numbers.now)) (via _ (sym (rw c.in_ok-e.was at c.conditional-third.ensures))
     (done (back g ∙ sym (third _ _ _ (is-zero f c.if-x-eq0.true))) refl))))))).ends
 
 pub conditional-returns : goal.conditional-returns
@@ -128,7 +128,7 @@ conditional-returns t c =
     let g : SFits w64 c.in_ok-colon.y = search rules in
     (by (a-condition _ _ _ c.if-room-eq0.false) (via _ (sym (c.in_ok-t.ensures ∙ a-chain _ _ _ _ c.if-room-eq0.false))
     (eq+ _ _ _ _ (sym c.kind.ensures.is ∙ is_kind! c.kind.result Question c.ne.ensures c.if-ne.false) (via _ (sym (rw c.next.ensures at c.in_ok-colon.ensures))
-    (via _ (sym (c.in_ok-last.ensures c.args.s.now.numbers.now)) (via _ (sym c.in_ok-e.ensures)
+    (via _ (sym (c.in_ok-last.ensures c.args.s.now.numbers.now)) (via _ (sym (rw c.in_ok-e.was at c.conditional-third.ensures))
     (done (back g ∙ sym (second _ _ _ (not_zero f c.if-x-eq0.false))) refl))))))).ends
 
 pub unary-returns-then-room-eq0 : goal.unary-returns-then-room-eq0

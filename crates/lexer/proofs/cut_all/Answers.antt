@@ -27,7 +27,7 @@ loop-at-preserved-in-Token c =
     let p = c.push.ensures in
     record {
       keeps = keeps_on c.loop-at.invariant.keeps p.keeps;
-      linked = rw p.count (link_token c.loop-at.invariant.linked c.loop-at-test.true _ _ _ (rw c.in-Token.is at c.in_ok-to.ensures.value) (rw c.in-Token.is at c.in_ok-to.ensures.goes) p.kinds p.places p.numbers);
+      linked = rw p.count (link_token c.loop-at.invariant.linked c.loop-at-test.true c.in-Token.kind _ _ (rw c.in-Token.is at c.in_ok-to.ensures.value) (rw c.in-Token.is at c.in_ok-to.ensures.goes) p.kinds p.places p.numbers);
     }
 
 pub loop-at-preserved : goal.loop-at-preserved
@@ -35,7 +35,7 @@ loop-at-preserved c =
     let p = c.push_name.ensures in
     record {
       keeps = keeps_on c.loop-at.invariant.keeps p.keeps;
-      linked = rw p.count (link_name c.loop-at.invariant.linked c.loop-at-test.true _ _ (rw c.in-Name.is at c.in_ok-to.ensures.value) (rw c.in-Name.is at c.in_ok-to.ensures.goes) p.stores c.push_name.auto.links);
+      linked = rw p.count (link_name c.loop-at.invariant.linked c.loop-at-test.true c.in-Name.kind _ (rw c.in-Name.is at c.in_ok-to.ensures.value) (rw c.in-Name.is at c.in_ok-to.ensures.goes) p.stores c.push_name.auto.links);
     }
 
 pub returns : goal.returns

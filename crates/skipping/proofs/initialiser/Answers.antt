@@ -1,15 +1,14 @@
 use native.Mathlib.Omega.{arith}
 use mathlib.Core.Path.{sym, ap, ◌∙◌}
 use Prim.Native.Nat.{◌+◌}
-use lib.ListN.{get_or}
 use Rattle.std.proofs.lemmas.Int.{ints}
 use Rattle.std.proofs.lemmas.List.{length-map}
 use Rattle.encoding.specs.Kinds.{kind_number, kind_numbers}
-use Rattle.encoding.specs.declared.token_kinds.TokenKind.TheVariants.{End, Equals}
+use Rattle.encoding.specs.declared.token_kinds.TokenKind.TheVariants.{Equals}
 use Rattle.encoding.proofs.TokenKinds.{is_kind!, no_kind! }
 use Rattle.table.proofs.Steps.{inside}
 use Rattle.skipping.specs.Passing.{standing}
-use Rattle.skipping.proofs.Rounds.{all-from, kind-from, none-stands, one-stands, initialiser-stop, initialiser-end, initialiser-on, deeper-small}
+use Rattle.skipping.proofs.Rounds.{all-from, kind-read, none-stands, one-stands, initialiser-stop, initialiser-end, initialiser-on, deeper-small}
 use Rattle.skipping.proofs.initialiser.Goals as goal
 
 pub returns-then-ne : goal.returns-then-ne
@@ -29,14 +28,14 @@ loop-i-init c =
     }
 
 pub overflow_add-depth : goal.overflow_add-depth
-overflow_add-depth c = let b = deeper-small (kind_number (get_or c.from-rest.result.now c.loop-i.i End)) in omega (arith, ints, c.deeper-depth.ensures, b.0, b.1, c.well_formed.0.1)
+overflow_add-depth c = let b = deeper-small (kind_number c.index-rest-i.result) in omega (arith, ints, c.deeper-depth.ensures, b.0, b.1, c.well_formed.0.1)
 
 pub loop-i-preserved : goal.loop-i-preserved
 loop-i-preserved c =
-    let b = deeper-small (kind_number (get_or c.from-rest.result.now c.loop-i.i End)) in
+    let b = deeper-small (kind_number c.index-rest-i.result) in
     record {
       same = λ ns t. c.loop-i.invariant.same ns t
-          ∙ initialiser-on (kind_numbers c.args.kinds.now) ns t (c.args.at + 1 + c.loop-i.i) _ (omega (arith, all-from c.args.kinds.now (c.args.at + 1) c.from-rest.ensures)) (kind-from c.args.kinds.now (c.args.at + 1) c.from-rest.ensures c.loop-i.i _ c.loop-i-test.true) (omega arith)
+          ∙ initialiser-on (kind_numbers c.args.kinds.now) ns t (c.args.at + 1 + c.loop-i.i) _ (omega (arith, all-from c.args.kinds.now (c.args.at + 1) c.from-rest.ensures)) (kind-read c.args.kinds.now (c.args.at + 1) c.from-rest.ensures c.loop-i.i c.index-rest-i.is c.loop-i-test.true) (omega arith)
           (omega (arith, ints, c.deeper-depth.ensures, b.0, b.1, c.well_formed.0.1)) (sym c.if-ends_initialiser.ensures);
       above = omega (arith, ints, c.deeper-depth.ensures, b.0, b.1, c.well_formed.0.1);
       below = omega (arith, ints, c.deeper-depth.ensures, b.0, b.1, c.well_formed.0.1);
@@ -44,7 +43,7 @@ loop-i-preserved c =
 
 pub returns-then-ends_initialiser : goal.returns-then-ends_initialiser
 returns-then-ends_initialiser c = λ ns t. c.loop-i.invariant.same ns t
-    ∙ initialiser-stop (kind_numbers c.args.kinds.now) ns t (c.args.at + 1 + c.loop-i.i) _ _ (kind-from c.args.kinds.now (c.args.at + 1) c.from-rest.ensures c.loop-i.i _ c.loop-i-test.true) (sym c.if-ends_initialiser.ensures)
+    ∙ initialiser-stop (kind_numbers c.args.kinds.now) ns t (c.args.at + 1 + c.loop-i.i) _ _ (kind-read c.args.kinds.now (c.args.at + 1) c.from-rest.ensures c.loop-i.i c.index-rest-i.is c.loop-i-test.true) (sym c.if-ends_initialiser.ensures)
 
 pub returns : goal.returns
 returns c = λ ns t. c.loop-i.invariant.same ns t
