@@ -42,7 +42,7 @@ extern "C" {
 #define RECORDTABLE_SIGNEDS 4096u /* int64_t */
 #define RECORDTABLE_ANSWER 6u     /* uint64_t */
 
-/* Stack that a call may use, in bytes; the most measured, on nested parameter lists, was 1,634,360. With less, the process ends at the guard page. */
+/* Stack that a call may use, in bytes; the most found, on nested parameter lists, was some 1,864,000. With less, the process ends at the guard page. */
 #define RECORDTABLE_STACK 2097152u
 
 /* The answer of an accepted text: how many there are. */
